@@ -1,0 +1,8 @@
+pub mod Defects
+pub mod Masked
+pub mod Stripes
+pub mod Striped
+pub mod Restores
+pub mod Copies
+pub mod Slices
+pub mod Stacks
