@@ -1,7 +1,9 @@
 // Plain bytes seen as blocks: what images and archives share.
 ghost use mathlib.Core.Path.{_≡_};
+ghost use Prim.Native.Nat.{_<_};
 ghost use lib.ListN.{length};
 ghost use Rattle.device.specs.Answers.{answer, filled, written};
+ghost use Rattle.device.specs.Store.{put};
 ghost use Rattle.device.specs.Bytes.{«block-count» as counted, «of-bytes» as seen};
 use crate::fault::BLOCK;
 use crate::fault::DeviceFault;
@@ -25,32 +27,49 @@ fn admit_bytes(bytes: &[u8], b: u32, len: usize) -> Result<(), DeviceFault>
     admit(len, b, blocks, b < blocks)
 }
 
-// Copies a block from the part that it is to a buffer, or from a buffer to the part.
-pub fn copy_block(to: &mut [u8], from: &[u8])
+// Copies the bytes of a block.
+fn copy_block(to: &mut [u8], from: &[u8])
     requires { ⌜ length (now to) ≡ length (now from) ⌝ }
     ensures { λ _. ⌜ now (to .exit) ≡ now (from .entry) ⌝ }
 {
     to.copy_from_slice(from);
 }
 
-// Copies block `b` of the bytes into the buffer.
+// The part of the bytes that block `b` is.
+fn block_of(bytes: &[u8], b: u32) -> &[u8]
+    requires { ⌜ b < counted (now bytes) ⌝ }
+    ensures block { λ r. ⌜ now r ≡ seen (now (bytes .entry)) .at b ⌝ }
+    ensures len { λ r. ⌜ length (now r) ≡ 256 ⌝ }
+{
+    let rest = &bytes[BLOCK * b as usize..];
+    &rest[0..BLOCK]
+}
+
+// Copies a block's new bytes into the part of the bytes that it is.
+fn replace_block(bytes: &mut [u8], b: u32, block: &[u8])
+    requires { ⌜ b < counted (now bytes) ⌝ ∗ ⌜ length (now block) ≡ 256 ⌝ }
+    ensures { λ _. ⌜ seen (now (bytes .exit)) ≡ put (seen (now (bytes .entry))) b (now (block .entry)) ⌝ }
+{
+    let at = BLOCK * b as usize;
+    copy_block(&mut bytes[at..at + BLOCK], block);
+}
+
+// Reads block `b` of the bytes into the buffer.
 pub fn read_block(bytes: &[u8], b: u32, buffer: &mut [u8]) -> Result<(), DeviceFault>
     ensures answer { λ r. ⌜ r ≡ answer (seen (now (bytes .entry))) b (length (now (buffer .entry))) ⌝ }
     ensures buffer { λ r. ⌜ now (buffer .exit) ≡ filled (seen (now (bytes .entry))) b (now (buffer .entry)) ⌝ }
 {
     admit_bytes(bytes, b, buffer.len())?;
-    let rest = &bytes[BLOCK * b as usize..];
-    copy_block(buffer, &rest[0..BLOCK]);
+    copy_block(buffer, block_of(bytes, b));
     Ok(())
 }
 
-// Copies the block's new bytes into its part of the bytes.
+// Writes block `b` of the bytes.
 pub fn write_block(bytes: &mut [u8], b: u32, block: &[u8]) -> Result<(), DeviceFault>
     ensures answer { λ r. ⌜ r ≡ answer (seen (now (bytes .entry))) b (length (now (block .entry))) ⌝ }
     ensures after { λ r. ⌜ seen (now (bytes .exit)) ≡ written (seen (now (bytes .entry))) b (now (block .entry)) ⌝ }
 {
     admit_bytes(bytes, b, block.len())?;
-    let at = BLOCK * b as usize;
-    copy_block(&mut bytes[at..at + BLOCK], block);
+    replace_block(bytes, b, block);
     Ok(())
 }

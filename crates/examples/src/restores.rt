@@ -10,8 +10,8 @@ use layers::DefectListDevice;
 use layers::DefectListSource;
 use layers::RestoreFault;
 use layers::restore;
-use layers::restore_image;
-use layers::restore_images;
+use restoring::restore_image;
+use restoring::restore_images;
 use std::error::AnyError;
 
 fn print_outcome(

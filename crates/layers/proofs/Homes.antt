@@ -9,9 +9,7 @@ use native.Mathlib.Omega.{arith}
 use lib.Dec.{eqb, ltb}
 use lib.ListN.{length}
 use Rattle.std.specs.declared.result.Result.{Result}
-use Rattle.std.specs.declared.result.Result.the-variants.{Ok, Err}
-use Rattle.layers.specs.declared.stack.StackFault.{StackFault}
-use Rattle.layers.specs.Stacks.{blocks-after, first-block, second-block, first-after, second-after}
+use Rattle.std.specs.declared.result.Result.the-variants.{Ok}
 use Rattle.std.proofs.shelf.Tests.{and-parts, cases-bool, eqb-true, eqb-false, eq-eqb, ne-eqb, lt-ltb}
 use Rattle.device.specs.declared.fault.DeviceFault.{DeviceFault}
 use Rattle.device.specs.Answers.{answer, written}
@@ -143,43 +141,3 @@ module _ (u : ℕ) (s t : Store) (l : Lawful s) (k : Lawful t) (some : 0 < u) (b
   write-second n e =
       let w = at-home (Second n) e in
       (w .0 ∙ sym a, ap (λ x. striped u s x) (written-ok t n v (w .0)) ∙ w .1)
-
--- every place of the two devices is the place of some block, so the stripe tells both
-module _ (u : ℕ) (some : 0 < u) where
-  -- run k of the stripe and r within it
-  module _ (k r : ℕ) (short : r < u) where
-    run-div : (u * k + r) / u ≡ k
-    run-div = mul-add-div some k r ∙ omega (arith, div-eq-of-lt short)
-
-    run-mod : (u * k + r) % u ≡ r
-    run-mod = mul-add-mod-self-left u k r ∙ mod-eq-of-lt short
-
-    run-even : k % 2 ≡ 0 → home u (u * k + r) ≡ First (u * (k / 2) + r)
-    run-even e = rw (run-div, run-mod, eq-eqb (k % 2) 0 e)
-
-    run-odd : (k % 2 ≡ 0 → ⊥) → home u (u * k + r) ≡ Second (u * (k / 2) + r)
-    run-odd e = rw (run-div, run-mod, ne-eqb (k % 2) 0 e)
-
-  first-home : (n : ℕ) → home u (first-block u n) ≡ First n
-  first-home n =
-      let h : 2 * (n / u) / 2 ≡ n / u = omega arith in
-      run-even (2 * (n / u)) (n % u) (mod-lt n some) (omega arith) ∙ ap First (ap (λ k. u * k + n % u) h ∙ div-add-mod n u)
-
-  second-home : (n : ℕ) → home u (second-block u n) ≡ Second n
-  second-home n =
-      let h : (2 * (n / u) + 1) / 2 ≡ n / u = omega arith in
-      run-odd (2 * (n / u) + 1) (n % u) (mod-lt n some) (λ e. omega arith) ∙ ap Second (ap (λ k. u * k + n % u) h ∙ div-add-mod n u)
-
-  -- what a restore onto the stripe leaves in both devices
-  pub sides : (r : Result ℕ StackFault) (s a b c d : Store) → striped u c d .at ≡ blocks-after r s (striped u a b)
-      → (c .at ≡ first-after r u s a) × (d .at ≡ second-after r u s b)
-  sides (Ok m) s a b c d e = (
-    λ i n. (sym (ap (λ h. home-at c d h) (first-home n)) ∙ (ap (λ f. f (first-block u n)) e
-        ∙ ap (λ h. cond (ltb (first-block u n) (s .size)) (s .at (first-block u n)) (home-at a b h)) (first-home n))) i,
-    λ i n. (sym (ap (λ h. home-at c d h) (second-home n)) ∙ (ap (λ f. f (second-block u n)) e
-        ∙ ap (λ h. cond (ltb (second-block u n) (s .size)) (s .at (second-block u n)) (home-at a b h)) (second-home n))) i,
-  )
-  sides (Err f) s a b c d e = (
-    λ i n. (sym (ap (λ h. home-at c d h) (first-home n)) ∙ (ap (λ g. g (first-block u n)) e ∙ ap (λ h. home-at a b h) (first-home n))) i,
-    λ i n. (sym (ap (λ h. home-at c d h) (second-home n)) ∙ (ap (λ g. g (second-block u n)) e ∙ ap (λ h. home-at a b h) (second-home n))) i,
-  )

@@ -4,5 +4,3 @@ pub mod Stripes
 pub mod Striped
 pub mod Restores
 pub mod Copies
-pub mod Slices
-pub mod Stacks

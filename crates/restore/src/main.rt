@@ -5,7 +5,7 @@ use device::Image;
 use device::ImageSource;
 use device::Source;
 use layers::RestoreFault;
-use layers::restore_image;
+use restoring::restore_image;
 use std::error::AnyError;
 use std::fs::File;
 use std::fs::OpenOptions;

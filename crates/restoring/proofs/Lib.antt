@@ -1,0 +1,4 @@
+pub mod Refilled
+pub mod Listing
+pub mod Stacked
+pub mod Sides
