@@ -8,5 +8,5 @@ pub fn worked_examples() -> usize
     ensures count { λ r. ⌜ r ≡ length examples ⌝ }
     ensures hold { λ _. ⌜ «Examples-hold» ⌝ }
 {
-    3
+    9
 }

@@ -1,0 +1,34 @@
+// The formats that the programs read and write: the sheet, the trace and the report.
+mod report;
+mod sheet;
+mod trace;
+
+pub use report::LevelTally;
+pub use report::LevelTallyDebug;
+pub use report::LevelTallyEq;
+pub use report::LevelTallyPartialEq;
+pub use report::ReportFault;
+pub use report::ReportFaultDebug;
+pub use report::ReportFaultEq;
+pub use report::ReportFaultPartialEq;
+pub use report::write_report;
+pub use sheet::Images;
+pub use sheet::ImagesDebug;
+pub use sheet::ImagesEq;
+pub use sheet::ImagesPartialEq;
+pub use sheet::Sheet;
+pub use sheet::SheetFault;
+pub use sheet::SheetFaultDebug;
+pub use sheet::SheetFaultEq;
+pub use sheet::SheetFaultFromRefused;
+pub use sheet::SheetFaultPartialEq;
+pub use sheet::read_sheet;
+pub use trace::Line;
+pub use trace::LineDebug;
+pub use trace::TraceFault;
+pub use trace::TraceFaultDebug;
+pub use trace::examples_hold;
+pub use trace::fill_in;
+pub use trace::first_line;
+pub use trace::judge;
+pub use trace::number_in;

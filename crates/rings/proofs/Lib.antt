@@ -1,0 +1,4 @@
+pub mod Lists
+pub mod Chains
+pub mod Updates
+pub mod Filing

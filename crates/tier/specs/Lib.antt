@@ -1,0 +1,9 @@
+pub mod Models
+pub mod Lifts
+pub mod Demotions
+pub mod Syncs
+pub mod Questions
+pub mod Refusals
+pub mod Tiers
+pub mod Floors
+pub mod Levels
