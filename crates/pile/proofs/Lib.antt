@@ -1,0 +1,10 @@
+pub mod Entries
+pub mod Settling
+pub mod Recents
+pub mod Hits
+pub mod Agrees
+pub mod Touches
+pub mod Sweeps
+pub mod Runs
+pub mod Promised
+pub mod Twins

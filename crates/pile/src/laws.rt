@@ -1,0 +1,10 @@
+// What holds of a mounted tier over every list of calls.
+ghost use Rattle.pile.specs.Laws.{«Laws-hold»};
+
+// The laws of the calls as they are defined, for every tier that can be mounted and every list of reads, writes and syncs,
+// refused ones included: transparency, what a sync leaves, order of recency, stack distance, and that equal devices answer alike.
+pub fn laws_hold() -> bool
+    ensures { λ _. ⌜ «Laws-hold» ⌝ }
+{
+    true
+}
