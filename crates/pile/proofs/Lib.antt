@@ -8,3 +8,4 @@ pub mod Sweeps
 pub mod Runs
 pub mod Promised
 pub mod Twins
+pub mod Sums

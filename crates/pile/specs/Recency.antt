@@ -1,7 +1,7 @@
 -- Order of recency: the different blocks of a trail, latest first, and how many touches found their block among the last few.
 use mathlib.Core.List.{List, [], _∷_, _++_, map}
 use mathlib.Core.Bool.{Bool, false, _||_, cond}
-use Prim.Native.Nat.{ℕ, _+_}
+use Prim.Native.Nat.{ℕ, zero, suc, _+_}
 use lib.Dec.{eqb}
 use lib.ListN.{take}
 use Rattle.row.specs.Entries.{Entry, RowModel}
@@ -40,3 +40,8 @@ total (x ∷ xs) = x + total xs
 abbrev pub room : List RowModel → ℕ
 room [] = 0
 room (r ∷ rs) = r .capacity + room rs
+
+-- how many numbers below n pass a test
+abbrev pub count-below : (ℕ → Bool) → ℕ → ℕ
+count-below f zero = 0
+count-below f (suc n) = cond (f n) 1 0 + count-below f n
