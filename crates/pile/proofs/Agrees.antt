@@ -11,13 +11,13 @@ use Rattle.std.specs.declared.option.Option.{Option}
 use Rattle.std.specs.declared.option.Option.the-variants.{Some, None}
 use Rattle.std.specs.declared.result.Result.the-variants.{Ok}
 use Rattle.std.specs.shelf.Lists.{All}
-use Rattle.std.proofs.shelf.Tests.{cases-bool, or-parts, or-from, eqb-true, eqb-false, eq-eqb, ne-eqb, true≢false}
+use Rattle.std.proofs.shelf.Tests.{cases-bool, or-parts, or-from, eqb-true, eqb-false, eq-eqb, ne-eqb, true≢false, cond-true as cond-yes, cond-false as cond-no}
 use Rattle.device.specs.Answers.{answer, written}
 use Rattle.device.specs.Store.{Store, put}
 use Rattle.device.proofs.Outcomes.{written-ok}
 use Rattle.row.specs.Entries.{Entry, is-saved, find-entry as look, without}
 use Rattle.tier.specs.Demotions.{settled, refusal-of}
-use Rattle.pile.proofs.Entries.{names, distinct, option-cases, cond-yes, cond-no, look-fresh, look-none, names-without, names-parts, distinct-head, distinct-right}
+use Rattle.pile.proofs.Entries.{names, distinct, option-cases, look-fresh, look-none, names-without, names-parts, distinct-head, distinct-right}
 use Rattle.pile.proofs.Settling.{fall-store, fall-drop}
 
 abbrev pub fits : Option Entry → List ℕ → List ℕ → Type 0

@@ -9,7 +9,7 @@ use lib.Dec.{eqb}
 use lib.ListN.{length, length-append}
 use Rattle.std.specs.declared.option.Option.{Option}
 use Rattle.std.specs.declared.option.Option.the-variants.{Some, None}
-use Rattle.std.proofs.shelf.Tests.{cases-bool, and-parts, and-from, or-parts, or-from, or-left, or-right, or-cases, not-true, not-from-false, eqb-true, eqb-false, eq-eqb, true≢false}
+use Rattle.std.proofs.shelf.Tests.{cases-bool, and-parts, and-from, or-parts, or-from, or-left, or-right, or-cases, not-true, not-from-false, eqb-true, eqb-false, eq-eqb, true≢false, cond-false as cond-no}
 use Rattle.row.specs.Entries.{Entry, find-entry as look, without, front}
 use Rattle.rings.specs.Slots.{last}
 
@@ -26,12 +26,6 @@ distinct (e ∷ es) = not (names (e .number) es) && distinct es
 pub option-cases : {X : Type 0} (o : Option X) → (o ≡ None) ⊎ ((x : X) × (o ≡ Some x))
 option-cases None = inl refl
 option-cases (Some x) = inr (x, refl)
-
-pub cond-yes : {X : Type 0} (t : Bool) (x y : X) → t ≡ true → cond t x y ≡ x
-cond-yes t x y e = rw e
-
-pub cond-no : {X : Type 0} (t : Bool) (x y : X) → t ≡ false → cond t x y ≡ y
-cond-no t x y e = rw e
 
 pub without-fresh : (b : ℕ) (es : List Entry) → names b es ≡ false → without b es ≡ es
 without-fresh b [] h = refl

@@ -8,10 +8,10 @@ use native.Mathlib.Omega.{arith}
 use lib.Dec.{eqb}
 use lib.ListN.{length, take, drop, length-append}
 use Rattle.std.proofs.shelf.Lists.{take-all, take-take, append-nil}
-use Rattle.std.proofs.shelf.Tests.{cases-bool, cases-lt, and-parts, and-from, or-parts, or-from, or-left, or-right, or-cases, not-true, not-from-false, eqb-true, eq-eqb, true≢false}
+use Rattle.std.proofs.shelf.Tests.{cases-bool, cases-lt, and-parts, and-from, or-parts, or-from, or-left, or-right, or-cases, not-true, not-from-false, eqb-true, eq-eqb, true≢false, cond-false as cond-no, cond-true as cond-yes}
 use Rattle.row.specs.Entries.{Entry, without, RowModel}
 use Rattle.pile.specs.Recency.{has, leave, once, flat, numbers, room, total}
-use Rattle.pile.proofs.Entries.{names, distinct, cond-no, cond-yes}
+use Rattle.pile.proofs.Entries.{names, distinct}
 use Rattle.pile.proofs.Settling.{Packed, caps, take-front}
 
 abbrev pub nodup : List ℕ → Bool

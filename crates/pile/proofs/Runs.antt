@@ -13,7 +13,7 @@ use Rattle.std.specs.Results.{isOk}
 use Rattle.std.specs.declared.result.Result.{Result}
 use Rattle.std.specs.declared.result.Result.the-variants.{Ok, Err}
 use Rattle.std.proofs.shelf.Lists.{length-replicate, take-all}
-use Rattle.std.proofs.shelf.Tests.{cases-bool, eqb-true, eqb-false, eq-eqb, ne-eqb, true≢false}
+use Rattle.std.proofs.shelf.Tests.{cases-bool, eqb-true, eqb-false, eq-eqb, ne-eqb, true≢false, cond-true as cond-yes, cond-false as cond-no}
 use Rattle.device.specs.declared.fault.DeviceFault.{DeviceFault}
 use Rattle.device.specs.Answers.{answer}
 use Rattle.device.specs.Store.{Store, Lawful, put}
@@ -30,7 +30,6 @@ use Rattle.pile.specs.Laws.{Mountable}
 use Rattle.pile.specs.Piles.{Pile, Call, read, write, sync, Answer, touches, mounted, wrapped, admitted, dropped-result, fetched, moved, touched, read-entry, write-entry, sweep, answered, stepped, after, answers}
 use Rattle.pile.specs.Recency.{once, within, flat, numbers, room, total}
 use Rattle.pile.proofs.Agrees.{fits, Agree, Ready}
-use Rattle.pile.proofs.Entries.{cond-yes, cond-no}
 use Rattle.pile.proofs.Hits.{no-hits}
 use Rattle.pile.proofs.Recents.{distinct-numbers, nodup, nodup-once, nodup-take, same-room, same-room-all}
 use Rattle.pile.proofs.Settling.{Packed, caps}

@@ -11,7 +11,7 @@ use Rattle.std.specs.declared.option.Option.{Option}
 use Rattle.std.specs.declared.option.Option.the-variants.{Some, None}
 use Rattle.std.specs.Options.{mapped}
 use Rattle.std.proofs.shelf.Lists.{take-all, drop-all, append-nil, take-append-drop, nil-from-length}
-use Rattle.std.proofs.shelf.Tests.{cases-bool, cases-lt, le-leb, lt-leb, or-parts, or-left, or-right, or-cases, eq-eqb, eqb-true}
+use Rattle.std.proofs.shelf.Tests.{cases-bool, cases-lt, le-leb, lt-leb, or-parts, or-left, or-right, or-cases, eq-eqb, eqb-true, cond-true as cond-yes, cond-false as cond-no}
 use Rattle.device.specs.Store.{Store}
 use Rattle.rings.specs.Slots.{last}
 use Rattle.row.specs.Entries.{Entry, is-saved, find-entry as look, without, RowModel, front}
@@ -19,7 +19,7 @@ use Rattle.tier.specs.declared.faults.Dropped.{Dropped}
 use Rattle.tier.specs.Demotions.{Outcome, settled, in-front, kept, fallen, over, passed, demoted, raised}
 use Rattle.tier.specs.Lifts.{lifted, lose-in, lose-or-below}
 use Rattle.pile.specs.Recency.{flat, room}
-use Rattle.pile.proofs.Entries.{names, distinct, option-cases, cond-yes, cond-no, without-fresh, names-append, names-parts, without-append, look-none, look-some, distinct-left, distinct-right, distinct-apart, length-without, init-last, fresh-without}
+use Rattle.pile.proofs.Entries.{names, distinct, option-cases, without-fresh, names-append, names-parts, without-append, look-none, look-some, distinct-left, distinct-right, distinct-apart, length-without, init-last, fresh-without}
 
 -- rows below a row that has room are empty
 abbrev pub Packed : List RowModel → Type 0

@@ -13,7 +13,7 @@ use Rattle.std.specs.declared.result.Result.the-variants.{Ok, Err}
 use Rattle.std.specs.shelf.Lists.{All}
 use Rattle.std.proofs.shelf.Elements.{all-take, all-getD, all-append}
 use Rattle.std.proofs.shelf.Lists.{take-all, take-more, take-append-le, length-take-le, length-append}
-use Rattle.std.proofs.shelf.Tests.{cases-bool, cases-eq, cases-order, or-parts, or-from, or-left, or-right, or-cases, eqb-true, eqb-false, eq-eqb, ne-eqb, lt-ltb, true≢false}
+use Rattle.std.proofs.shelf.Tests.{cases-bool, cases-eq, cases-order, or-parts, or-from, or-left, or-right, or-cases, eqb-true, eqb-false, eq-eqb, ne-eqb, lt-ltb, true≢false, cond-true as cond-yes, cond-false as cond-no}
 use Rattle.device.specs.Answers.{answer}
 use Rattle.device.specs.Store.{Store, Same, Lawful, put}
 use Rattle.device.proofs.Outcomes.{admitted as passed}
@@ -23,7 +23,6 @@ use Rattle.pile.specs.Bare.{Bare, bare, bare-admitted, bare-stepped, bare-afte
 use Rattle.pile.specs.Laws.{Mountable, trail-of, sound-count, served, Serve-alike, sum-of, Sharp, Equal-sums}
 use Rattle.pile.specs.Piles.{Call, read, write, sync, wrapped}
 use Rattle.pile.specs.Recency.{has, leave, once, within, count-below}
-use Rattle.pile.proofs.Entries.{cond-yes, cond-no}
 use Rattle.pile.proofs.Promised.{counted}
 use Rattle.pile.proofs.Recents.{nodup, nodup-head, nodup-cons, nodup-leave, nodup-once, nodup-take, leave-fresh, fresh-take}
 use Rattle.pile.proofs.Runs.{wrapped-ok}

@@ -12,7 +12,7 @@ use Rattle.std.specs.declared.option.Option.the-variants.{Some, None}
 use Rattle.std.specs.Options.{mapped}
 use Rattle.std.specs.declared.result.Result.the-variants.{Ok}
 use Rattle.std.proofs.shelf.Lists.{map-append}
-use Rattle.std.proofs.shelf.Tests.{cases-bool, eqb-true, eqb-false, eq-eqb, ne-eqb, true≢false}
+use Rattle.std.proofs.shelf.Tests.{cases-bool, eqb-true, eqb-false, eq-eqb, ne-eqb, true≢false, cond-true as cond-yes, cond-false as cond-no}
 use Rattle.device.specs.Answers.{answer, checked}
 use Rattle.device.specs.Store.{Store, put}
 use Rattle.row.specs.declared.frame.Mark.{Mark}
@@ -20,9 +20,10 @@ use Rattle.row.specs.declared.frame.Mark.the-variants.{Saved, Unsaved}
 use Rattle.row.specs.Entries.{Entry, is-saved, find-entry as look, RowModel}
 use Rattle.tier.specs.Demotions.{Outcome, over, raised}
 use Rattle.tier.specs.Syncs.{Swept, saved-copy, before, saved-or-stop, swept, resumed, synced}
+use Rattle.tier.proofs.Sweeping.{saved-same}
 use Rattle.pile.specs.Recency.{flat, numbers}
 use Rattle.pile.proofs.Agrees.{fits, Agree, Ready}
-use Rattle.pile.proofs.Entries.{names, distinct, cond-yes, cond-no, look-fresh, distinct-head, distinct-right}
+use Rattle.pile.proofs.Entries.{names, distinct, look-fresh, distinct-head, distinct-right}
 use Rattle.pile.proofs.Settling.{Packed, caps}
 
 pub answer-same : (s t : Store) → s .size ≡ t .size → s .sound ≡ t .sound → (b n : ℕ) → answer s b n ≡ answer t b n
@@ -39,13 +40,6 @@ ready-left s (x ∷ xs) ys r = (r .0, ready-left s xs ys (r .1))
 ready-right : (s : Store) (xs ys : List Entry) → Ready s (xs ++ ys) → Ready s ys
 ready-right s [] ys r = r
 ready-right s (x ∷ xs) ys r = ready-right s xs ys (r .1)
-
-saved-mark : (k : Mark) → is-saved k ≡ true → k ≡ Saved
-saved-mark Saved h = refl
-saved-mark Unsaved h = absurd (true≢false (sym h))
-
-saved-same : (e : Entry) → is-saved (e .mark) ≡ true → e ≡ saved-copy e
-saved-same e h = λ i. record { number = e .number; bytes = e .bytes; mark = saved-mark (e .mark) h i }
 
 -- the first entry is out of the way: its stored block is as wanted
 module _ (e : Entry) (zs : List Entry) (s t : Store) (w : ℕ → List ℕ) (a : Agree (e ∷ zs) s w) (fresh : names (e .number) zs ≡ false)

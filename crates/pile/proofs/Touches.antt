@@ -13,18 +13,19 @@ use Rattle.std.specs.declared.result.Result.the-variants.{Ok}
 use Rattle.std.specs.shelf.Lists.{All}
 use Rattle.std.proofs.shelf.Lists.{take-all, take-take, take-map, take-append-drop, append-nil, nil-from-length}
 use Rattle.std.proofs.shelf.Elements.{all-take, all-drop, all-append}
-use Rattle.std.proofs.shelf.Tests.{cases-bool, or-left, or-right}
+use Rattle.std.proofs.shelf.Tests.{cases-bool, or-left, or-right, cond-false as cond-no, cond-true as cond-yes}
 use Rattle.device.specs.Answers.{answer}
 use Rattle.device.specs.Store.{Store}
 use Rattle.row.specs.Entries.{Entry, is-saved, find-entry as look, without, RowModel}
 use Rattle.tier.specs.Demotions.{Outcome, settled}
 use Rattle.tier.specs.Lifts.{Found, found, deeper, or-below}
 use Rattle.tier.specs.Models.{Model}
+use Rattle.tier.proofs.Intake.{length-less}
 use Rattle.pile.specs.Bare.{Bare}
 use Rattle.pile.specs.Piles.{Pile, touches, counted, moved, touched}
 use Rattle.pile.specs.Recency.{has, leave, once, within, flat, numbers, room, total}
 use Rattle.pile.proofs.Agrees.{fits, Agree, Ready, ready-without, agree-front, agree-fall, settled-taken, settled-size, settled-sound}
-use Rattle.pile.proofs.Entries.{names, distinct, option-cases, look-none, look-some, names-left, names-append, names-without, distinct-cons, distinct-without, cond-no, cond-yes}
+use Rattle.pile.proofs.Entries.{names, distinct, option-cases, look-none, look-some, names-left, names-append, names-without, distinct-cons, distinct-without}
 use Rattle.pile.proofs.Hits.{hit, hits-count, length-hit, names-right}
 use Rattle.pile.proofs.Recents.{numbers-without, has-numbers, distinct-numbers, nodup, nodup-once, nodup-take, recent-more, flat-take, same-room, same-room-all}
 use Rattle.pile.proofs.Sweeps.{answer-same, ready-same}
@@ -128,10 +129,6 @@ module _ (m : Model) (p : Pile) (d : Bare) (inv : Inv m p d) (e : Entry) (t : St
 
   held-ready : Ready (d .store) held
   held-ready = (takes, ready-without (d .store) (e .number) (flat (p .tier .rows)) (inv .ready))
-
-  length-less : (b : ℕ) (es : List Entry) → length (without b es) ≤ length es
-  length-less b [] = omega arith
-  length-less b (x ∷ xs) = elim (cases-bool (eqb (x .number) b)) [ inl k ↦ rw k (omega (arith, length-less b xs)) | inr k ↦ rw k (omega (arith, length-less b xs)) ]
 
   at-most-one : length (drop (room (p .tier .rows)) held) ≤ 1
   at-most-one = omega (arith, length-drop (room (p .tier .rows)) held, length-less (e .number) (flat (p .tier .rows)), packed-fits (p .tier .rows) (inv .packed))

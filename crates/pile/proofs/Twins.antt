@@ -9,7 +9,7 @@ use lib.ListN.{length}
 use Rattle.std.specs.Results.{isOk}
 use Rattle.std.specs.declared.result.Result.{Result}
 use Rattle.std.specs.declared.result.Result.the-variants.{Ok, Err}
-use Rattle.std.proofs.shelf.Tests.{cases-bool}
+use Rattle.std.proofs.shelf.Tests.{cases-bool, cond-true as cond-yes, cond-false as cond-no}
 use Rattle.device.specs.Answers.{answer, checked}
 use Rattle.device.specs.Store.{Store, Same, put}
 use Rattle.device.proofs.Outcomes.{admitted as passed}
@@ -18,7 +18,6 @@ use Rattle.pile.specs.declared.faults.PileFault.the-variants.{Full}
 use Rattle.pile.specs.Bare.{Bare, bare, bare-admitted, bare-answered, bare-stepped, bare-after, bare-answers}
 use Rattle.pile.specs.Laws.{Mountable, Alike, trail-of}
 use Rattle.pile.specs.Piles.{Call, read, write, sync, wrapped, Answer}
-use Rattle.pile.proofs.Entries.{cond-yes, cond-no}
 use Rattle.pile.proofs.Promised.{transparent}
 use Rattle.pile.proofs.Runs.{wrapped-ok}
 

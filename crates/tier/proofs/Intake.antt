@@ -12,7 +12,7 @@ use Rattle.std.specs.declared.option.Option.the-variants.{Some, None}
 use Rattle.std.specs.Options.{mapped}
 use Rattle.std.specs.declared.result.Result.{Result}
 use Rattle.std.specs.declared.result.Result.the-variants.{Ok, Err}
-use Rattle.std.proofs.shelf.Tests.{cases-bool, cases-eq, le-leb, lt-leb, eq-eqb, ne-eqb, eqb-true, eqb-false}
+use Rattle.std.proofs.shelf.Tests.{cases-bool, cases-eq, le-leb, lt-leb, eq-eqb, ne-eqb, eqb-true, eqb-false, cond-true as cond-yes, cond-false as cond-no}
 use Rattle.device.specs.Store.{Store}
 use Rattle.rings.specs.Slots.{last, end}
 use Rattle.row.specs.declared.frame.Mark.{Mark}
@@ -29,12 +29,6 @@ use Rattle.tier.specs.Questions.{told}
 use Rattle.tier.specs.declared.victim.Victim.{Victim}
 use Rattle.tier.specs.Refusals.{raised-answer, dropped-answer, demote-answer}
 use Rattle.tier.specs.Tiers.{entry-of-victim, victim-of, demotion, demote-after, model-of}
-
-cond-yes : {X : Type 0} (t : Bool) (x y : X) → t ≡ true → cond t x y ≡ x
-cond-yes t x y e = rw e
-
-cond-no : {X : Type 0} (t : Bool) (x y : X) → t ≡ false → cond t x y ≡ y
-cond-no t x y e = rw e
 
 pub find-without : (b : ℕ) (es : List Entry) → find-entry b (without b es) ≡ None
 find-without b [] = refl
@@ -64,7 +58,7 @@ length-start : (x : Entry) (xs : List Entry) → length (start x xs) ≡ length 
 length-start x [] = refl
 length-start x (y ∷ ys) = ap suc (length-start y ys)
 
-length-less : (b : ℕ) (es : List Entry) → length (without b es) ≤ length es
+pub length-less : (b : ℕ) (es : List Entry) → length (without b es) ≤ length es
 length-less b [] = omega arith
 length-less b (x ∷ xs) = elim (cases-bool (eqb (x .number) b)) [ inl k ↦ rw k (omega (arith, length-less b xs)) | inr k ↦ rw k (omega (arith, length-less b xs)) ]
 

@@ -10,7 +10,7 @@ use Rattle.std.specs.declared.option.Option.{Option}
 use Rattle.std.specs.declared.option.Option.the-variants.{Some, None}
 use Rattle.std.specs.declared.result.Result.{Result}
 use Rattle.std.specs.declared.result.Result.the-variants.{Ok, Err}
-use Rattle.std.proofs.shelf.Tests.{cases-bool, true≢false}
+use Rattle.std.proofs.shelf.Tests.{cases-bool, true≢false, cond-true as cond-yes, cond-false as cond-no}
 use Rattle.device.specs.declared.fault.DeviceFault.{DeviceFault}
 use Rattle.device.specs.Answers.{answer, written}
 use Rattle.device.specs.Store.{Store, put}
@@ -22,12 +22,6 @@ use Rattle.tier.specs.Demotions.{told-drop}
 use Rattle.tier.specs.declared.faults.Dropped.{Dropped}
 use Rattle.tier.specs.Models.{Model}
 use Rattle.tier.specs.Syncs.{Swept, saved-copy, before, saved-or-stop, swept, saved-answer, save-answer, save-entry, save-model}
-
-cond-yes : {X : Type 0} (t : Bool) (x y : X) → t ≡ true → cond t x y ≡ x
-cond-yes t x y e = rw e
-
-cond-no : {X : Type 0} (t : Bool) (x y : X) → t ≡ false → cond t x y ≡ y
-cond-no t x y e = rw e
 
 saved-mark : (k : Mark) → is-saved k ≡ true → k ≡ Saved
 saved-mark Saved h = refl
