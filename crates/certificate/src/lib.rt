@@ -1,4 +1,6 @@
 // The certificate: which layouts serve equally many touches, whatever a program reads and writes.
+#![tactic(auto)]
+
 mod devices;
 mod reads;
 mod sizes;

@@ -1,5 +1,7 @@
 // Compares the layouts of two sheets over image.bin and image2.bin in the current folder: whether they serve equally many
 // touches on every trace, and if not, a trace on which they do not.
+#![tactic(auto)]
+
 use anyhow::anyhow;
 use certificate::{CompareFault, Comparison, Verdict};
 use comparing::{LayoutFault, compare_sheets};

@@ -1,4 +1,6 @@
 // Comparing the layouts that two sheets list over the same images.
+#![tactic(auto)]
+
 mod bytes;
 mod devices;
 mod fault;

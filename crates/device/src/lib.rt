@@ -1,4 +1,6 @@
 // Block devices: what a source and a device mean, and the two that stand over plain bytes.
+#![tactic(auto)]
+
 mod archive;
 mod blocks;
 mod fault;

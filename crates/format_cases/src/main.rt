@@ -1,4 +1,6 @@
 // Sheets, traces and reports, lawful and damaged, and what the readers and the writer answer.
+#![tactic(auto)]
+
 mod reports;
 mod sheets;
 mod traces;

@@ -1,4 +1,6 @@
 // The formats that the programs read and write: the sheet, the trace and the report.
+#![tactic(auto)]
+
 mod report;
 mod sheet;
 mod trace;

@@ -1,4 +1,6 @@
 // Devices that stand over other devices, and the copying of one onto another.
+#![tactic(auto)]
+
 mod defects;
 mod home;
 mod restoring;

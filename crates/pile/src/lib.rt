@@ -1,4 +1,6 @@
 // The client of a tier: a pile, its calls, and the laws over every list of them.
+#![tactic(auto)]
+
 mod faults;
 mod laws;
 mod pile;

@@ -1,5 +1,7 @@
 // Replays the trace on standard input on what pile.sheet lists, over image.bin and, for two images, image2.bin, all in the
 // current folder, and prints a report or why there is none.
+#![tactic(auto)]
+
 use anyhow::anyhow;
 use formats::{Images, SheetFault, TraceFault, read_sheet, write_report};
 use replaying::{ReplayFault, Replayed, replay};

@@ -1,4 +1,6 @@
 // Replays small traces over images in memory, and prints what is told and what the images hold after.
+#![tactic(auto)]
+
 mod cases;
 
 use cases::{both_broken, broken_line, empty_image, example, no_levels, striped, tail, wide_level};

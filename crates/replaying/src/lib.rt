@@ -1,4 +1,6 @@
 // Replaying a trace from bytes to bytes: a sheet, its images and a trace come in, and the images and the tallies come out.
+#![tactic(auto)]
+
 mod bytes;
 mod fault;
 mod images;

@@ -1,4 +1,6 @@
 // Restores archive.bin onto image.bin in the current folder and prints a record of it.
+#![tactic(auto)]
+
 use device::{Archive, Image, Source};
 use layers::RestoreFault;
 use restoring::restore_image;

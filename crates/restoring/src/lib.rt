@@ -1,4 +1,6 @@
 // Restoring from bytes to bytes, onto devices made over the caller's slices.
+#![tactic(auto)]
+
 mod single;
 mod stack;
 

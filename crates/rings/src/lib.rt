@@ -1,4 +1,6 @@
 // Rings of slots, and an index over them.
+#![tactic(auto)]
+
 mod index;
 mod links;
 mod rings;

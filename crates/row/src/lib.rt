@@ -1,4 +1,6 @@
 // A row: the blocks that one level of a cache holds, latest first.
+#![tactic(auto)]
+
 mod capacity;
 mod frame;
 mod row;

@@ -1,4 +1,6 @@
 // Tiers: rows of entries over stored blocks.
+#![tactic(auto)]
+
 mod faults;
 mod floor;
 mod level;
