@@ -5,7 +5,7 @@ use Rattle.std.proofs.lemmas.Bool.{cases_Bool, or_left, or_right, eqb-true, eqb-
 use Rattle.rings.specs.declared.rings.Rings.{Rings}
 use Rattle.rings.specs.Slots.{member, without, distinct, first, after}
 use Rattle.rings.specs.Models.{ring, fronted}
-use Rattle.rings.specs.Buckets.{bucket, Filed, in_bucket, key_in, sought, from}
+use Rattle.rings.specs.Buckets.{bucket, Filed, key_in, sought, from}
 use Rattle.std.specs.List.{AllByRecursion as All}
 use Rattle.rings.proofs.Lists.{member_without, member_after, after_first}
 use Rattle.rings.proofs.Chains.{chain_slots, closed_chain, closed_distinct}
@@ -14,7 +14,7 @@ pub bucket_few : (b : ℕ) → bucket b < 16
 bucket_few b = omega arith
 
 key_is : (s : Rings) (keys : List ℕ) (x : ℕ) → key_in s keys x ≡ cond (member x (ring s (bucket (get_or keys x 0)))) (Some (get_or keys x 0)) None
-unfolding in_bucket
+unfolding key_in
 key_is s keys x = refl
 
 pub member_fronted : (y x r q : ℕ) (xs : List ℕ) → member y (fronted x r q xs) ≡ cond (eqb y x) (eqb q r) (member y xs)

@@ -5,7 +5,7 @@ use Rattle.std.proofs.lemmas.List.{get_or-set_same, get_or-set_other, length-set
 use Rattle.std.proofs.lemmas.Bool.{cases_Bool, cases_eq, or_parts, eqb-true, eqb-false, lt-ltb}
 use Rattle.rings.specs.declared.rings.Rings.{Rings}
 use Rattle.rings.specs.Slots.{member, without, distinct, first, after}
-use Rattle.rings.specs.Links.{ring_of, slot_at, closed, Closed, Paired, join_links, out_links, in_links}
+use Rattle.rings.specs.Links.{ring_of, slot_at, closed, Closed, Paired, out_links, in_links}
 use Rattle.rings.proofs.Lists.{distinct_head, distinct_tail, distinct_cons, distinct_without, without_none, after_first}
 use Rattle.rings.proofs.Chains.{Link, Chain, frame, all_apart, chain_slots, chain_next, ring_chain, closed_chain, closed_distinct, closed_to}
 
@@ -218,53 +218,37 @@ alone_free s x low alone q h =
 
 -- what the links of rings are known to be
 abbrev pub Sound : List ℕ → List ℕ → Type 0
-Sound n p = (length n ≡ 32) × ((length p ≡ 32) × (Paired n p × (Paired p n × (Closed n p × Unit {0}))))
+Sound n p = record { wide : length n ≡ 32; wide_back : length p ≡ 32; paired : Paired n p; paired_back : Paired p n; closed : Closed n p }
 
 pub known : (s : Rings) → Sound s.next s.prev
-known s = (s.wide, (s.wide_back, (s.paired, (s.paired_back, (s.closed, tt)))))
-
--- the places that are linked to one another are the neighbours of place x
-pub out_is : (there back t : List ℕ) (u v x : ℕ) → t ≡ join_links there u v x → u ≡ get_or back x 0 → v ≡ get_or there x 0 → t ≡ out_links there back x
-out_is there back t u v x e f g = e ∙ rw (f, g)
+known s = record { wide = s.wide; wide_back = s.wide_back; paired = s.paired; paired_back = s.paired_back; closed = s.closed }
 
 pub out_sound : (n p n' p' : List ℕ) (x : ℕ) → x < 16 → Sound n p → n' ≡ out_links n p x → p' ≡ out_links p n x → Sound n' p'
-out_sound n p n' p' x low (wn, (wp, (there, (back, (shut, _))))) e f =
+out_sound n p n' p' x low k e f =
     let in' : x < 32 = omega arith in
-    rw (e, f) (
-      two_length n (get_or p x 0) (get_or n x 0) x x wn,
-      (
-        two_length p (get_or n x 0) (get_or p x 0) x x wp,
-        (
-          out_paired n p wn wp there back x in',
-          (
-            out_paired p n wp wn back there x in',
-            (out_closed n p wn wp there back x in' low shut, tt),
-          ),
-        ),
-      ),
-    )
+    rw (e, f) (record {
+      wide = two_length n (get_or p x 0) (get_or n x 0) x x k.wide;
+      wide_back = two_length p (get_or n x 0) (get_or p x 0) x x k.wide_back;
+      paired = out_paired n p k.wide k.wide_back k.paired k.paired_back x in';
+      paired_back = out_paired p n k.wide_back k.wide k.paired_back k.paired x in';
+      closed = out_closed n p k.wide k.wide_back k.paired k.paired_back x in' low k.closed;
+    })
 
 pub out_rings : (n p n' : List ℕ) (x : ℕ) → x < 16 → Sound n p → n' ≡ out_links n p x → (q : ℕ) → q < 16 → ring_of n' q ≡ without x (ring_of n q)
-out_rings n p n' x low (wn, (wp, (there, (back, (shut, _))))) e q h = rw e (out_ring n p wn wp there back x (omega arith) low q (shut q h))
+out_rings n p n' x low k e q h = rw e (out_ring n p k.wide k.wide_back k.paired k.paired_back x (omega arith) low q (k.closed q h))
 
 pub out_lone : (n p n' : List ℕ) (x : ℕ) → x < 16 → length n ≡ 32 → n' ≡ out_links n p x → get_or n' x 0 ≡ x
 out_lone n p n' x low wn e = rw e (two_later n (get_or p x 0) (get_or n x 0) x x (omega arith))
 
 pub in_sound : (n p n' p' : List ℕ) (x r : ℕ) → x < 16 → r < 16 → Sound n p → get_or n x 0 ≡ x → get_or p x 0 ≡ x → ((q : ℕ) → q < 16 → member x (ring_of n q) ≡ false) → n' ≡ in_links n (16 + r) x (get_or n (16 + r) 0) → p' ≡ in_links p (get_or n (16 + r) 0) x (16 + r) → Sound n' p'
-in_sound n p n' p' x r low few (wn, (wp, (there, (back, (shut, _))))) alone alone-back free e f =
-    rw (e, f) (
-      two_length n (16 + r) x x (get_or n (16 + r) 0) wn,
-      (
-        two_length p (get_or n (16 + r) 0) x x (16 + r) wp,
-        (
-          in_there n p wn wp there back shut x r low few alone alone-back,
-          (
-            in_back n p wn wp there back shut x r low few alone alone-back,
-            (in_closed n p wn wp there back shut x r low few alone alone-back free, tt),
-          ),
-        ),
-      ),
-    )
+in_sound n p n' p' x r low few k alone alone-back free e f =
+    rw (e, f) (record {
+      wide = two_length n (16 + r) x x (get_or n (16 + r) 0) k.wide;
+      wide_back = two_length p (get_or n (16 + r) 0) x x (16 + r) k.wide_back;
+      paired = in_there n p k.wide k.wide_back k.paired k.paired_back k.closed x r low few alone alone-back;
+      paired_back = in_back n p k.wide k.wide_back k.paired k.paired_back k.closed x r low few alone alone-back;
+      closed = in_closed n p k.wide k.wide_back k.paired k.paired_back k.closed x r low few alone alone-back free;
+    })
 
 pub in_rings : (n p n' : List ℕ) (x r : ℕ) → x < 16 → r < 16 → Sound n p → get_or n x 0 ≡ x → get_or p x 0 ≡ x → ((q : ℕ) → q < 16 → member x (ring_of n q) ≡ false) → n' ≡ in_links n (16 + r) x (get_or n (16 + r) 0) → (q : ℕ) → q < 16 → ring_of n' q ≡ cond (eqb q r) (x ∷ ring_of n q) (ring_of n q)
-in_rings n p n' x r low few (wn, (wp, (there, (back, (shut, _))))) alone alone-back free e q h = rw e (in_ring n p wn wp there back shut x r low few alone alone-back free q h)
+in_rings n p n' x r low few k alone alone-back free e q h = rw e (in_ring n p k.wide k.wide_back k.paired k.paired_back k.closed x r low few alone alone-back free q h)

@@ -1,5 +1,5 @@
 -- The buckets of an index: sixteen rings, and the one that each number belongs to.
-use Rattle.std.specs.Prelude.{◌≡◌, ℕ, ◌*◌, ◌/◌, ◌%◌, ◌^◌, ◌<◌, Bool, true, cond, List, [], ◌∷◌, Some, None, Option, ◌==◌, slice_index}
+use Rattle.std.specs.Prelude.{◌≡◌, ℕ, ◌*◌, ◌/◌, ◌%◌, ◌^◌, ◌<◌, true, cond, List, [], ◌∷◌, Some, None, Option, ◌==◌, slice_index}
 use Rattle.rings.specs.declared.rings.Rings.{Rings}
 use Rattle.rings.specs.Slots.{member, first, after}
 use Rattle.rings.specs.Models.{ring}
@@ -12,13 +12,9 @@ bucket b = (b * 2654435769 % 2 ^ 32) / 2 ^ 28
 abbrev pub Filed : Rings → List ℕ → Type 0
 Filed s keys = (x r : ℕ) → (r < 16) × (member x (ring s r) ≡ true) → bucket (slice_index keys x) ≡ r
 
--- whether slot x is in the ring of its number
-unfoldable pub in_bucket : Rings → List ℕ → ℕ → Bool
-in_bucket s keys x = member x (ring s (bucket (slice_index keys x)))
-
 -- the number that slot x is filed under, if any
-abbrev pub key_in : Rings → List ℕ → ℕ → Option ℕ
-key_in s keys x = cond (in_bucket s keys x) (Some (slice_index keys x)) None
+unfoldable pub key_in : Rings → List ℕ → ℕ → Option ℕ
+key_in s keys x = cond (member x (ring s (bucket (slice_index keys x)))) (Some (slice_index keys x)) None
 
 -- the first slot of a chain that has the number b
 abbrev pub sought : List ℕ → ℕ → List ℕ → Option ℕ

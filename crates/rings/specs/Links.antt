@@ -35,13 +35,9 @@ Closed next prev = (r : ℕ) → r < 16 → closed next prev r ≡ true
 abbrev pub Paired : List ℕ → List ℕ → Type 0
 Paired there back = (i : ℕ) → i < 32 → (slice_index there i < 32) × (slice_index back (slice_index there i) ≡ i)
 
--- the links when place u is linked on to v, and place x to itself
-abbrev pub join_links : List ℕ → ℕ → ℕ → ℕ → List ℕ
-join_links there u v x = slice_set (slice_set there u v) x x
-
 -- the links when the neighbours of place x are linked to one another, and x to itself
 abbrev pub out_links : List ℕ → List ℕ → ℕ → List ℕ
-out_links there back x = join_links there (slice_index back x) (slice_index there x) x
+out_links there back x = slice_set (slice_set there (slice_index back x) (slice_index there x)) x x
 
 -- the links when place x is linked in from u and on to v
 abbrev pub in_links : List ℕ → ℕ → ℕ → ℕ → List ℕ

@@ -1,19 +1,15 @@
 // The links of a doubly linked list: who stands behind a place, and who before it.
-ghost use Rattle.std.specs.Prelude.{◌≡◌, ◌<◌};
-ghost use Rattle.rings.specs.Links.{join_links as joined, in_links as between};
+ghost use Rattle.std.specs.Prelude.{◌≡◌, ◌<◌, length, slice_index};
+ghost use Rattle.rings.specs.Links.{out_links as outside, in_links as between};
 
 // Links the neighbours of `x` to one another, and `x` to itself.
-pub fn take_out(
-    next: &mut [usize; 32],
-    prev: &mut [usize; 32],
-    x: usize,
-    before: usize,
-    behind: usize,
-)
-    requires { (x < 32) × ((before < 32) × (behind < 32)) }
-    ensures next { next.new ≡ joined next.old before behind x }
-    ensures prev { prev.new ≡ joined prev.old behind before x }
+pub fn take_out(next: &mut [usize; 32], prev: &mut [usize; 32], x: usize)
+    requires { (x < 32) × ((slice_index next.old x < 32) × (slice_index prev.old x < 32)) }
+    ensures next { next.new ≡ outside next.old prev.old x }
+    ensures prev { prev.new ≡ outside prev.old next.old x }
 {
+    let before = prev[x];
+    let behind = next[x];
     next[before] = behind;
     prev[behind] = before;
     next[x] = x;

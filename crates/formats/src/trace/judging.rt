@@ -109,7 +109,7 @@ fn judge_lines(body: &[u8]) -> Result<(), TraceFault>
 fn is_header(text: &[u8]) -> bool
     ensures { result ≡ heading text.now }
 {
-    text == b"demote-trace 1"
+    text == b"demote-trace 1".as_slice()
 }
 
 // Judges the header and the lines after it.

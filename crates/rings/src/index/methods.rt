@@ -58,6 +58,7 @@ impl Index {
     }
 
     // The number that slot `x` is filed under.
+    #[tactic(auto, unfolding(crate::specs::Buckets::key_in))]
     pub fn number(&self, x: usize) -> u32
         requires { x < 16 }
         ensures { is_some (keyed self.now x) ≡ true → keyed self.now x ≡ Some result }

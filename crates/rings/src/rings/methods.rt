@@ -26,18 +26,7 @@ impl Rings {
         ensures rings { (q : ℕ) → q < 16 → ring self.new q ≡ without x (ring self.old q) }
         ensures alone { (slice_index self.new.next x ≡ x) × (slice_index self.new.prev x ≡ x) }
     {
-        let before = self.prev[x];
-        let behind = self.next[x];
-        self.unlink(x, before, behind);
-    }
-
-    // Takes slot `x` out from between its neighbours.
-    fn unlink(&mut self, x: usize, before: usize, behind: usize)
-        requires { (x < 16) × ((before ≡ slice_index self.old.prev x) × (behind ≡ slice_index self.old.next x)) }
-        ensures rings { (q : ℕ) → q < 16 → ring self.new q ≡ without x (ring self.old q) }
-        ensures alone { (slice_index self.new.next x ≡ x) × (slice_index self.new.prev x ≡ x) }
-    {
-        take_out(&mut self.next, &mut self.prev, x, before, behind);
+        take_out(&mut self.next, &mut self.prev, x);
     }
 
     // Puts slot `x`, wherever it was, in front of ring `r`.

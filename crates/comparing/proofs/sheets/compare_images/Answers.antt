@@ -21,8 +21,8 @@ returns-in-Single-Single c =
     let p : images_store c.args.first.now.images one two ≡ s = ap (λ i. images_store i one two) c.in-Single-Single.is-0 in
     let q : images_store c.args.second.now.images one two ≡ s = ap (λ i. images_store i one two) c.in-Single-Single.is-1 in
     record {
-      answer = images_answer l m one two c.args.j c.args.k c.compare-copies.result s same p q c.compare-copies.ensures;
-      proved = images_proved l m one two c.args.j c.args.k c.compare-copies.result s same p q c.compare-copies.ensures;
+      answer = images_answer l m one two c.args.j c.args.k c.compare_copies.result s same p q c.compare_copies.ensures;
+      proved = images_proved l m one two c.args.j c.args.k c.compare_copies.result s same p q c.compare_copies.ensures;
     }
 
 pub returns-else-unit-other : goal.returns-else-unit-other
@@ -38,6 +38,6 @@ returns-else-unit-other c =
     let p : images_store c.args.first.now.images one two ≡ s = ap (λ i. images_store i one two) c.in-Striped-Striped.is-0 in
     let q : images_store c.args.second.now.images one two ≡ s = ap (λ i. images_store i one two) w in
     record {
-      answer = images_answer l m one two c.args.j c.args.k c.compare-striped-copies.result s same p q c.compare-striped-copies.ensures;
-      proved = images_proved l m one two c.args.j c.args.k c.compare-striped-copies.result s same p q c.compare-striped-copies.ensures;
+      answer = images_answer l m one two c.args.j c.args.k c.compare_striped_copies.result s same p q c.compare_striped_copies.ensures;
+      proved = images_proved l m one two c.args.j c.args.k c.compare_striped_copies.result s same p q c.compare_striped_copies.ensures;
     }

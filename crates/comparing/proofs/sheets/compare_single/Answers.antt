@@ -5,5 +5,5 @@ use Rattle.comparing.proofs.sheets.compare_single.Goals as goal
 
 pub returns : goal.returns
 returns c =
-    devices_are c.compare-listed.result c.args.j c.args.k (vec_items c.args.first.now.levels) (vec_items c.args.first.now.defects) (vec_items c.args.second.now.levels) (vec_items c.args.second.now.defects)
-    _ _ _ _ (ap of_bytes c.new-one.ensures.bytes) (ap of_bytes c.new-other.ensures.bytes) c.compare-listed.ensures
+    devices_are c.compare_listed.result c.args.j c.args.k (vec_items c.args.first.now.levels) (vec_items c.args.first.now.defects) (vec_items c.args.second.now.levels) (vec_items c.args.second.now.defects)
+    _ _ _ _ (ap of_bytes c.new-one.ensures.bytes) (ap of_bytes c.new-other.ensures.bytes) c.compare_listed.ensures

@@ -1,5 +1,6 @@
-use Rattle.layers.proofs.Members.{listed_from_contains}
+use Rattle.std.proofs.Common.{◌∙◌}
+use Rattle.layers.proofs.Members.{listed_any}
 use Rattle.layers.proofs.defects.holds.Goals as goal
 
 pub returns : goal.returns
-returns c = listed_from_contains c.args.numbers.now c.args.b c.contains.result c.contains.ensures.cases
+returns c = c.contains.ensures.value ∙ listed_any c.args.numbers.now c.args.b

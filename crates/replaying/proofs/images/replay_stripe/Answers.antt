@@ -8,9 +8,9 @@ use Rattle.replaying.proofs.images.replay_stripe.Goals as goal
 
 pub returns : goal.returns
 returns g c =
-    let a = g.D.Source.store c.replay-listed.new.device.first in
-    let b = g.E.Source.store c.replay-listed.new.device.second in
-    let f = blocks_after c.replay-listed.result (calls_of c.args.body.now)
+    let a = g.D.Source.store c.replay_listed.new.device.first in
+    let b = g.E.Source.store c.replay_listed.new.device.second in
+    let f = blocks_after c.replay_listed.result (calls_of c.args.body.now)
     (masked (vec_items c.args.sheet.now.defects) (striped c.args.unit (g.D.Source.store c.args.stripe.now.first) (g.E.Source.store c.args.stripe.now.second))) in
     let e : (striped c.args.unit a b).at ≡ f = search rules in
     let some : 0 < c.args.unit = omega (arith, c.requires.unit.0) in

@@ -11,7 +11,7 @@ returns-in-Write g c =
     let p = pile_of (g.T.Tier.model c.args.pile.now.tier) c.args.pile.now.tallies in
     let e = sym c.in-Write.is in
     record {
-      refused = c.run-write.ensures.refused ∙ ap (λ l. refuses (call_of (shown l)) p) e;
-      after = c.run-write.ensures.after ∙ ap (λ l. stepped (call_of (shown l)) p) e;
-      loans = c.run-write.ensures.loans;
+      refused = c.run_write.ensures.refused ∙ ap (λ l. refuses (call_of (shown l)) p) e;
+      after = c.run_write.ensures.after ∙ ap (λ l. stepped (call_of (shown l)) p) e;
+      loans = c.run_write.ensures.loans;
     }

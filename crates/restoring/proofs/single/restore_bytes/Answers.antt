@@ -4,6 +4,6 @@ use Rattle.restoring.proofs.single.restore_bytes.Goals as goal
 pub returns : goal.returns
 returns c =
     record {
-      answer = c.restore-blocks.ensures.answer;
-      image = refilled c.args.source.now.bytes.now c.args.image.now c.restore-blocks.new.image c.restore-blocks.ensures.blocks;
+      answer = c.restore_blocks.ensures.answer;
+      image = refilled c.args.source.now.bytes.now c.args.image.now c.restore_blocks.new.image c.restore_blocks.ensures.blocks;
     }

@@ -8,13 +8,13 @@ use Rattle.restoring.proofs.stack.restore_image_bytes.Goals as goal
 pub returns : goal.returns
 returns c =
     record {
-      answer = c.restore-image-blocks.ensures.answer;
-      first = c.restore-image-blocks.ensures.first;
-      second = c.restore-image-blocks.ensures.second;
+      answer = c.restore_image_blocks.ensures.answer;
+      first = c.restore_image_blocks.ensures.first;
+      second = c.restore_image_blocks.ensures.second;
       refused = λ e. (
-        told c.restore-image-blocks.new.first c.args.first.now (λ b. ap (λ f. f b) (c.restore-image-blocks.ensures.first ∙ refused_side c.restore-image-blocks.result
+        told c.restore_image_blocks.new.first c.args.first.now (λ b. ap (λ f. f b) (c.restore_image_blocks.ensures.first ∙ refused_side c.restore_image_blocks.result
             (first_block c.args.unit) (of_bytes c.args.source.now.bytes.now) (of_bytes c.args.first.now) e)),
-        told c.restore-image-blocks.new.second c.args.second.now (λ b. ap (λ f. f b) (c.restore-image-blocks.ensures.second ∙ refused_side c.restore-image-blocks.result
+        told c.restore_image_blocks.new.second c.args.second.now (λ b. ap (λ f. f b) (c.restore_image_blocks.ensures.second ∙ refused_side c.restore_image_blocks.result
             (second_block c.args.unit) (of_bytes c.args.source.now.bytes.now) (of_bytes c.args.second.now) e)),
       );
       told = blocks_tell;

@@ -6,10 +6,10 @@ use Rattle.restoring.proofs.stack.restore_on.Goals as goal
 
 pub returns : goal.returns
 returns g c =
-    let e : (striped c.args.unit (g.D.Source.store c.restore-listed.new.device.first) (g.E.Source.store c.restore-listed.new.device.second)).at
-    ≡ blocks_after c.restore-listed.result (g.S.Source.store c.args.source.now)
+    let e : (striped c.args.unit (g.D.Source.store c.restore_listed.new.device.first) (g.E.Source.store c.restore_listed.new.device.second)).at
+    ≡ blocks_after c.restore_listed.result (g.S.Source.store c.args.source.now)
     (striped c.args.unit (g.D.Source.store c.args.stripe.now.first) (g.E.Source.store c.args.stripe.now.second)) = search rules in
-    let some : 0 < c.args.unit = omega (arith, c.set-unit.new.self.some, c.in-ok-set-unit.ensures.unit) in
-    let w = sides c.args.unit some c.restore-listed.result (g.S.Source.store c.args.source.now) (g.D.Source.store c.args.stripe.now.first)
-    (g.E.Source.store c.args.stripe.now.second) (g.D.Source.store c.restore-listed.new.device.first) (g.E.Source.store c.restore-listed.new.device.second) e in
+    let some : 0 < c.args.unit = omega (arith, c.set_unit.new.self.some, c.in_ok-set_unit.ensures.unit) in
+    let w = sides c.args.unit some c.restore_listed.result (g.S.Source.store c.args.source.now) (g.D.Source.store c.args.stripe.now.first)
+    (g.E.Source.store c.args.stripe.now.second) (g.D.Source.store c.restore_listed.new.device.first) (g.E.Source.store c.restore_listed.new.device.second) e in
     record { answer = search rules; first = w.0; second = w.1; first-loans = search rules; second-loans = search rules }

@@ -9,4 +9,4 @@ pub returns-else-n-lt10 : goal.returns-else-n-lt10
 returns-else-n-lt10 t c =
     let s : c.args.n < 2 ^ 64 = omega arith in
     let e = length_digits c.args.n c.if-n-lt10.false s in
-    record { count = omega (arith, e, c.digit-count.ensures.count); few = omega (arith, e, c.digit-count.ensures.count, length_few c.args.n s) }
+    record { count = omega (arith, e, c.digit_count.ensures.count); few = omega (arith, e, c.digit_count.ensures.count, length_few c.args.n s) }

@@ -4,4 +4,4 @@ use Rattle.formats.proofs.report.lengths.level_length.Goals as goal
 
 pub returns : goal.returns
 returns c =
-    omega (arith, length_level c.args.i c.args.level.now, c.digit-count.ensures.count, c.digit-count-capacity.ensures.count, c.digit-count-hits.ensures.count)
+    omega (arith, length_level c.args.i c.args.level.now, c.digit_count.ensures.count, c.digit_count-capacity.ensures.count, c.digit_count-hits.ensures.count)

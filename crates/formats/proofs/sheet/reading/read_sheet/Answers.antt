@@ -2,4 +2,4 @@ use Rattle.formats.proofs.SheetLaw.{told_rightly}
 use Rattle.formats.proofs.sheet.reading.read_sheet.Goals as goal
 
 pub returns : goal.returns
-returns c = record { answer = c.read-all.ensures; told = told_rightly c.args.sheet.now }
+returns c = record { answer = c.read_all.ensures; told = told_rightly c.args.sheet.now }

@@ -6,10 +6,10 @@ use Rattle.formats.proofs.trace.judging.read_fields.Goals as goal
 pub returns-then-space-ne32 : goal.returns-then-space-ne32
 returns-then-space-ne32 c = search (rules, read_unspaced)
 
-pub returns-then-is-none : goal.returns-then-is-none
-returns-then-is-none c =
+pub returns-then-is_none : goal.returns-then-is_none
+returns-then-is_none c =
     let some : 0 < length c.args.fields.now = omega (arith, ltb-false) in
-    read_unnumbered c.args.fields.now some (ap is_some (sym c.number-in.ensures) ∙ c.if-is-none.ensures)
+    read_unnumbered c.args.fields.now some (ap is_some (sym c.number_in.ensures) ∙ c.if-is_none.ensures)
 
 pub returns : goal.returns
 returns c = search (rules, read_lawful)

@@ -4,8 +4,8 @@ use Rattle.pile.proofs.Counts.{within_total, raised, none_raised_outside}
 use Rattle.pile.proofs.tallies.Tallies.add.Goals as goal
 use Rattle.pile.proofs.tallies.Tallies.add.Goals.{else-level-ge1-via-then-level-ge1+else-level-self, else-level-ge1-via-else-level-ge1}
 
-pub overflow-add-self : goal.overflow-add-self
-overflow-add-self c = omega (arith, c.requires, within_total c.args.self.now.levels c.args.self.now.hits (c.args.level - 1) (omega arith) (omega arith))
+pub overflow_add-self : goal.overflow_add-self
+overflow_add-self c = omega (arith, c.requires, within_total c.args.self.now.levels c.args.self.now.hits (c.args.level - 1) (omega arith) (omega arith))
 
 pub returns-then-level-self : goal.returns-then-level-self
 returns-then-level-self c = record {

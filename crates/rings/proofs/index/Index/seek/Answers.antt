@@ -6,7 +6,7 @@ pub loop-at-init : goal.loop-at-init
 loop-at-init c =
     let s = c.args.self.now in
     let b = c.args.bucket in
-    seek_starts s.keys c.args.number (ring s.rings b) c.first_at.result (ring_slots s.rings b c.requires) c.first_at.ensures
+    seek_starts s.keys c.args.number (ring s.rings b) c.first-at.result (ring_slots s.rings b c.requires) c.first-at.ensures
 
 pub loop-at-smaller : goal.loop-at-smaller
 loop-at-smaller c =

@@ -13,8 +13,8 @@ admit-slot-requires c =
     let f = r.few in
     record { room = omega arith; fresh = none_keyed r.shelf r.frames c.args.number c.requires.fresh }
 
-pub invariant-of-self : goal.invariant-of-self
-invariant-of-self c =
+pub invariant_of-self : goal.invariant_of-self
+invariant_of-self c =
     let r = c.args.self.now in
     let k = c.admit-slot.ensures in
     let w : length c.fill.new.frames ≡ 16 = ap length c.fill.ensures ∙ (length-set _ _ _ ∙ r.wide) in

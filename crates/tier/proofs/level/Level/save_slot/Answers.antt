@@ -7,10 +7,10 @@ use Rattle.tier.specs.Syncs.{save_answer, save_model}
 use Rattle.tier.proofs.Sweeping.{saved_same, saved_skips, saved_model, refused_answer, refused_model}
 use Rattle.tier.proofs.level.Level.save_slot.Goals as goal
 
-pub returns-then-is-saved : goal.returns-then-is-saved
-returns-then-is-saved g c =
+pub returns-then-is_saved : goal.returns-then-is_saved
+returns-then-is_saved g c =
     let e = held c.args.self.now.row c.args.slot in
-    let s : is_saved e.mark ≡ true = sym (c.if-is-saved.ensures ∙ ap (λ t. is_saved t.mark) c.tag-tag.ensures) in
+    let s : is_saved e.mark ≡ true = sym (c.if-is_saved.ensures ∙ ap (λ t. is_saved t.mark) c.tag-tag.ensures) in
     record {
       answer = saved_skips (g.T.Tier.model c.args.self.now.below).store e s;
       row = ap (λ xs. holding xs (model c.args.self.now.row)) (entries_split c.args.self.now.row c.args.slot c.requires
@@ -28,7 +28,7 @@ returns-in-Err g c =
     let e = held c.args.self.now.row c.args.slot in
     let m = g.T.Tier.model c.args.self.now.below in
     let n : c.tag-tag.result.number ≡ e.number = ap (λ t. t.number) c.tag-tag.ensures in
-    let s : is_saved e.mark ≡ false = sym (c.if-is-saved.ensures ∙ ap (λ t. is_saved t.mark) c.tag-tag.ensures) in
+    let s : is_saved e.mark ≡ false = sym (c.if-is_saved.ensures ∙ ap (λ t. is_saved t.mark) c.tag-tag.ensures) in
     let k = c.in-Err.ensures.answer ∙ (λ i. answer m.store (n i) (length (c.bytes.ensures i))) in
     record {
       answer = (λ i. Err record { block = n i; fault = c.in-Err.fault; level = 1 }) ∙ refused_answer m.store e c.in-Err.fault s (sym k);

@@ -19,9 +19,9 @@ returns-in-None g c =
     let n = none_found (find_entry c.args.b (entries c.args.self.now.row)) c.in-None.ensures.answer in
     let f = c.take.ensures.buffer ∙ ap (λ o. bytes_or o c.args.buffer.now) n in
     record {
-      answer = c.lift-below.ensures.answer ∙ (ap (λ xs. deeper_answer (lift_answer m c.args.b (length xs))) f ∙ below_answer r m c.args.b n (length c.args.buffer.now));
-      buffer = c.lift-below.ensures.buffer ∙ (ap (λ xs. lift_buffer m c.args.b xs) f ∙ below_buffer r m c.args.b n c.args.buffer.now);
-      after = (λ i. level_model ((ap model c.lift-below.ensures.row ∙ c.take.ensures.after) i) ((c.lift-below.ensures.after ∙ ap (λ xs. lift_after m c.args.b (length xs)) f) i))
+      answer = c.lift_below.ensures.answer ∙ (ap (λ xs. deeper_answer (lift_answer m c.args.b (length xs))) f ∙ below_answer r m c.args.b n (length c.args.buffer.now));
+      buffer = c.lift_below.ensures.buffer ∙ (ap (λ xs. lift_buffer m c.args.b xs) f ∙ below_buffer r m c.args.b n c.args.buffer.now);
+      after = (λ i. level_model ((ap model c.lift_below.ensures.row ∙ c.take.ensures.after) i) ((c.lift_below.ensures.after ∙ ap (λ xs. lift_after m c.args.b (length xs)) f) i))
           ∙ below_after r m c.args.b n (length c.args.buffer.now);
-      loans = c.lift-below.ensures.loans;
+      loans = c.lift_below.ensures.loans;
     }
