@@ -9,9 +9,9 @@ use Rattle.rings.proofs.Filing.{ring_distinct, ring_low}
 use Rattle.row.specs.declared.frame.Frame.{Frame}
 use Rattle.row.specs.declared.frame.Mark.{Mark}
 use Rattle.row.specs.declared.shelf.Shelf.{Shelf}
-use Rattle.row.specs.Frames.{blank, marked}
+use Rattle.row.specs.Frames.{blank, saved_frame}
 use Rattle.row.specs.Orders.{order, key}
-use Rattle.row.specs.Entries.{find_entry, without, front, mark_as}
+use Rattle.row.specs.Entries.{find_entry, without, front, save}
 use Rattle.row.specs.Held.{Whole, On, Found, Last, entry_in, entries_in, above_in, below_in, before}
 use Rattle.row.proofs.Mapped.{map_same, Only, map_without, find_held, find_none, none_holds, last_map, front_map, map_split, without_last, before_next, member_before, member_behind, member_here}
 
@@ -158,25 +158,25 @@ next_slot s fs x r (low, m) e = go (after x (order s)) refl r e
           below_is s fs x ∙ (ap (λ xs. map (entry_in s fs) xs) p ∙ ap (λ es. entry_in s fs y ∷ es) (ap (λ xs. map (entry_in s fs) xs) (sym (after_first x y (order s) zs (order_distinct s) p)) ∙ sym (below_is s fs y))),
         )
 
--- a slot gets a mark
-module _ (s : Shelf) (fs : List Frame) (x : ℕ) (mark : Mark) (wide : length fs ≡ 16) (here : On s x) where
+-- a slot is saved
+module _ (s : Shelf) (fs : List Frame) (x : ℕ) (wide : length fs ≡ 16) (here : On s x) where
   abbrev fs' : List Frame
-  fs' = set fs x (marked (get_or fs x blank) mark)
+  fs' = set fs x (saved_frame (get_or fs x blank))
 
-  pub marked_held : entry_in s fs' x ≡ mark_as mark (entry_in s fs x)
-  marked_held = let l = here.0 in let g : get_or fs' x blank ≡ marked (get_or fs x blank) mark = get_or-set_same fs x (marked (get_or fs x blank) mark) blank (omega arith) in rw g
+  pub saved_held : entry_in s fs' x ≡ save (entry_in s fs x)
+  saved_held = let l = here.0 in let g : get_or fs' x blank ≡ saved_frame (get_or fs x blank) = get_or-set_same fs x (saved_frame (get_or fs x blank)) blank (omega arith) in rw g
 
   other : (y : ℕ) → (y ≡ x → ⊥) → entry_in s fs' y ≡ entry_in s fs y
-  other y ne = entry_same s s fs fs' y refl (get_or-set_other fs x y (marked (get_or fs x blank) mark) blank ne)
+  other y ne = entry_same s s fs fs' y refl (get_or-set_other fs x y (saved_frame (get_or fs x blank)) blank ne)
 
-  pub marked_above : above_in s fs' x ≡ above_in s fs x
-  marked_above = above_is s fs' x ∙ (map_same (entry_in s fs') (entry_in s fs) (before x (order s)) (λ y m. other y (member_before y x (order s) m).1) ∙ sym (above_is s fs x))
+  pub saved_above : above_in s fs' x ≡ above_in s fs x
+  saved_above = above_is s fs' x ∙ (map_same (entry_in s fs') (entry_in s fs) (before x (order s)) (λ y m. other y (member_before y x (order s) m).1) ∙ sym (above_is s fs x))
 
-  pub marked_below : below_in s fs' x ≡ below_in s fs x
-  marked_below = below_is s fs' x ∙ (map_same (entry_in s fs') (entry_in s fs) (after x (order s)) (λ y m. other y (member_behind y x (order s) (order_distinct s) m).1) ∙ sym (below_is s fs x))
+  pub saved_below : below_in s fs' x ≡ below_in s fs x
+  saved_below = below_is s fs' x ∙ (map_same (entry_in s fs') (entry_in s fs) (after x (order s)) (λ y m. other y (member_behind y x (order s) (order_distinct s) m).1) ∙ sym (below_is s fs x))
 
-  pub marked_entries : entries_in s fs' ≡ above_in s fs x ++ mark_as mark (entry_in s fs x) ∷ below_in s fs x
-  marked_entries = entries_around s fs' x here ∙ rw (marked_held, marked_above, marked_below)
+  pub saved_entries : entries_in s fs' ≡ above_in s fs x ++ save (entry_in s fs x) ∷ below_in s fs x
+  saved_entries = entries_around s fs' x here ∙ rw (saved_held, saved_above, saved_below)
 
 pub whole_set : (fs : List Frame) (x : ℕ) (f : Frame) → length fs ≡ 16 → x < 16 → length f.bytes ≡ 256 → Whole fs → Whole (set fs x f)
 whole_set fs x f wide low h w y ly =

@@ -13,10 +13,10 @@ use Rattle.row.specs.Shelves.{Listed, Spare, Single, Small}
 
 -- what is known of a shelf of so many numbers
 abbrev pub Agreed : Rings → Index → ℕ → Type 0
-Agreed places index len = Listed places index × (Spare places index × (Single index × (Small index × ((len ≡ length (ring places 0)) × Unit {0}))))
+Agreed places index len = record { listed : Listed places index; spare : Spare places index; single : Single index; small : Small index; counted : len ≡ length (ring places 0) }
 
 pub agreed : (s : Shelf) → Agreed s.places s.index s.len
-agreed s = (s.listed, (s.spare, (s.single, (s.small, (s.counted, tt)))))
+agreed s = record { listed = s.listed; spare = s.spare; single = s.single; small = s.small; counted = s.counted }
 
 never : {A : Type 0} → (o : Option ℕ) → o ≡ None → is_some o ≡ true → A
 never o e h = absurd (both_ways (is_some o) (ap is_some e) h)
@@ -69,8 +69,8 @@ module _ (p p' : Rings) (i i' : Index) (x : ℕ) (low : x < 16) (moved : (q : �
       (omega arith, omega arith)
 
   pub released : (n : ℕ) → member x (ring p 0) ≡ true → Agreed p i n → Agreed p' i' (n - 1)
-  released n m (listed, (spare, (single, (small, (counted, _))))) =
-      (released_listed listed, (released_spare spare, (released_single single, (released_small small, ((released_count n m counted).1, tt)))))
+  released n m k =
+      record { listed = released_listed k.listed; spare = released_spare k.spare; single = released_single k.single; small = released_small k.small; counted = (released_count n m k.counted).1 }
 
 module _ (p p' : Rings) (i i' : Index) (x b : ℕ) (low : x < 16) (fits : b < 2 ^ 32) (moved : (q : ℕ) → q < 16 → ring p' q ≡ fronted x 0 q (ring p q)) (keys : (y : ℕ) → y < 16 → key_of i' y ≡ cond (eqb y x) (Some b) (key_of i y)) (fresh : (y : ℕ) → y < 16 → key_of i y ≡ Some b → ⊥) where
   new_here : (y : ℕ) → y < 16 → eqb y x ≡ true → key_of i' y ≡ Some b
@@ -117,8 +117,9 @@ module _ (p p' : Rings) (i i' : Index) (x b : ℕ) (low : x < 16) (fits : b < 2 
   admitted_order m = moved 0 (omega arith) ∙ ap (λ zs. x ∷ zs) (without_none x (ring p 0) m)
 
   pub admitted : (n : ℕ) → member x (ring p 0) ≡ false → Agreed p i n → Agreed p' i' (n + 1)
-  admitted n m (listed, (spare, (single, (small, (counted, _))))) =
-      (admitted_listed listed, (admitted_spare spare, (admitted_single single, (admitted_small small, ((let o = ap length (admitted_order m) in omega arith), tt)))))
+  admitted n m k =
+      let e = k.counted in
+      record { listed = admitted_listed k.listed; spare = admitted_spare k.spare; single = admitted_single k.single; small = admitted_small k.small; counted = let o = ap length (admitted_order m) in omega arith }
 
 -- where fewer than sixteen slots have numbers there is a free one
 pub never_full : (p : Rings) (i : Index) → Listed p i → Spare p i → length (ring p 0) < 16 → ring p 1 ≡ [] → ⊥

@@ -20,10 +20,6 @@ is_saved Unsaved = false
 abbrev pub saved : Entry → Bool
 saved e = is_saved e.mark
 
--- the entry with another mark
-abbrev pub mark_as : Mark → Entry → Entry
-mark_as mark e = record { number = e.number; bytes = e.bytes; mark = mark }
-
 -- the entry when it is saved
 abbrev pub save : Entry → Entry
 save e = record { number = e.number; bytes = e.bytes; mark = Saved }

@@ -11,5 +11,5 @@ blank = record { bytes = []; mark = Saved }
 abbrev pub filled : List ℕ → Mark → Frame
 filled bytes mark = record { bytes = bytes; mark = mark }
 
-abbrev pub marked : Frame → Mark → Frame
-marked f mark = record { bytes = f.bytes; mark = mark }
+abbrev pub saved_frame : Frame → Frame
+saved_frame f = record { bytes = f.bytes; mark = Saved }

@@ -2,7 +2,7 @@
 ghost use Rattle.std.specs.Prelude.{◌≡◌, ◌<◌, length, get_or, replicate, slice_index_or, slice_set};
 ghost use Rattle.row.specs.declared.frame.Mark.TheVariants.{Saved};
 ghost use Rattle.row.specs.Entries.{is_saved as holds};
-ghost use Rattle.row.specs.Frames.{blank, filled, marked};
+ghost use Rattle.row.specs.Frames.{blank, filled, saved_frame as marked};
 
 // Whether the device holds a block's bytes as the cache does.
 #[derive(Clone, Copy, PartialEq, Eq, Debug)]
@@ -81,16 +81,16 @@ pub fn mark_of(frames: &[Frame], x: usize) -> Mark
     frames[x].mark
 }
 
-// Gives frame `x` a mark.
-pub fn set_mark(frames: &mut [Frame], x: usize, mark: Mark)
+// Marks frame `x` saved.
+pub fn save(frames: &mut [Frame], x: usize)
     requires { x < length frames.old }
-    ensures { frames.new ≡ slice_set frames.old x (marked (slice_index_or frames.old x blank) mark) }
+    ensures { frames.new ≡ slice_set frames.old x (marked (slice_index_or frames.old x blank)) }
 {
-    write_mark(&mut frames[x], mark);
+    mark_saved(&mut frames[x]);
 }
 
-fn write_mark(frame: &mut Frame, mark: Mark)
-    ensures { frame.new ≡ marked frame.old mark }
+fn mark_saved(frame: &mut Frame)
+    ensures { frame.new ≡ marked frame.old }
 {
-    frame.mark = mark;
+    frame.mark = Mark::Saved;
 }

@@ -2,12 +2,12 @@
 ghost use Rattle.std.specs.Prelude.{◌≡◌, ◌<◌, [], ◌∷◌, ◌++◌, length, is_ok, if◌then◌else◌, Some, None, MatchOption};
 ghost use Rattle.std.specs.Option.{option_map};
 ghost use Rattle.rings.specs.Slots.{last};
-ghost use Rattle.row.specs.Entries.{find_entry as sought, without, front, save, mark_as as remarked, «tag_of» as told, holding, bytes_or as contents, leaving, left};
+ghost use Rattle.row.specs.Entries.{find_entry as sought, without, front, save, «tag_of» as told, holding, bytes_or as contents, leaving, left};
 ghost use Rattle.row.specs.Refusals.{capacity_answer as answered};
 ghost use Rattle.row.specs.Rows.{model, entries, Stands, held, above, below};
 
 use crate::capacity::{CapacityFault, check};
-use crate::frame::{Mark, Tag, copy_out, fill, frames, set_mark};
+use crate::frame::{Mark, Tag, copy_out, fill, frames, save};
 use crate::row::Row;
 use crate::shelf::Shelf;
 
@@ -120,18 +120,6 @@ impl Row {
         ensures above { above self.new slot ≡ above self.old slot }
         ensures below { below self.new slot ≡ below self.old slot }
     {
-        self.set_mark(slot, Mark::Saved);
-    }
-
-    // Gives the entry in a slot a mark.
-    fn set_mark(&mut self, slot: usize, mark: Mark)
-        requires { Stands self.old slot }
-        ensures after { model self.new ≡ holding (above self.old slot ++ remarked mark (held self.old slot) ∷ below self.old slot) (model self.old) }
-        ensures stands { Stands self.new slot }
-        ensures held { held self.new slot ≡ remarked mark (held self.old slot) }
-        ensures above { above self.new slot ≡ above self.old slot }
-        ensures below { below self.new slot ≡ below self.old slot }
-    {
-        set_mark(&mut self.frames, slot, mark);
+        save(&mut self.frames, slot);
     }
 }

@@ -23,4 +23,4 @@ invariant_of-self c =
     let e = length_entries r.shelf r.frames in
     let o = ap length k.order in
     let p = c.requires.room in omega arith) in
-    (w, (h, (room, (r.some, (r.few, tt)))))
+    record { wide = w; whole = h; room = room; some = r.some; few = r.few }
