@@ -1,7 +1,7 @@
 -- Worked examples of the definitions, as one list of which every member is proved.
 use Rattle.std.specs.Prelude.{◌≡◌, ℕ, false, List, [], ◌∷◌, replicate, Some}
 use Rattle.std.specs.Option.{option_map}
-use Rattle.std.specs.List.{AllByRecursion as All}
+use Rattle.std.specs.List.{AllByRecursion}
 use Rattle.device.specs.declared.fault.DeviceFault.TheVariants.{Defective}
 use Rattle.device.specs.Store.{Store}
 use Rattle.layers.specs.declared.home.Home.{Home}
@@ -58,4 +58,4 @@ examples = stripe_has 2 5 7 8 ∷ (lies_at 2 5 (First 3) ∷ (lies_at 2 6 (Secon
     ∷ (run_gives (3 ∷ (2 ∷ [])) some_touches ((2 ∷ (5 ∷ (1 ∷ []))) ∷ ((4 ∷ (3 ∷ [])) ∷ [])) (2 ∷ (1 ∷ [])) 7 ∷ [])))))))))))
 
 abbrev pub ExamplesHold : Type 0
-ExamplesHold = All Holds examples
+ExamplesHold = AllByRecursion Holds examples

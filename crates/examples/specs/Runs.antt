@@ -1,6 +1,6 @@
 -- What a pile comes to by some reads, whatever device it is mounted over.
 use Rattle.std.specs.Prelude.{◌≡◌, ℕ, true, List}
-use Rattle.std.specs.List.{AllByRecursion as All}
+use Rattle.std.specs.List.{AllByRecursion}
 use Rattle.device.specs.Store.{Store, Lawful}
 use Rattle.pile.specs.Piles.{Pile, mounted, after}
 use Rattle.pile.specs.Reads.{reads_of}
@@ -18,4 +18,4 @@ run capacities touches s = after (reads_of touches) (mounted record { store = s;
 
 -- over every lawful store in which the touched blocks are sound
 abbrev pub RunStands : List ℕ → List ℕ → List (List ℕ) → List ℕ → ℕ → Type 0
-RunStands capacities touches names hits floor = (s : Store) → Lawful s → All (λ b. s.sound b ≡ true) touches → Stands (run capacities touches s) names hits floor
+RunStands capacities touches names hits floor = (s : Store) → Lawful s → AllByRecursion (λ b. s.sound b ≡ true) touches → Stands (run capacities touches s) names hits floor

@@ -3,7 +3,7 @@ use Rattle.std.specs.Prelude.{◌≡◌, ℕ, ◌-◌, ◌^◌, ◌<◌, ◌≤�
 use Rattle.row.specs.declared.frame.Mark.{Mark}
 use Rattle.row.specs.declared.frame.Mark.TheVariants.{Saved, Unsaved}
 use Rattle.row.specs.declared.frame.Tag.{Tag}
-use Rattle.std.specs.List.{AllByRecursion as All}
+use Rattle.std.specs.List.{AllByRecursion}
 use Rattle.rings.specs.Slots.{distinct, last}
 
 -- a block in a row: its number, its bytes and its mark
@@ -90,5 +90,5 @@ pub record Lawful (m : RowModel) : Type 0 where
   pub few : m.capacity ≤ 16
   pub room : length m.entries ≤ m.capacity
   pub single : distinct (numbers m.entries) ≡ true
-  pub whole : All (λ e. length e.bytes ≡ 256) m.entries
-  pub small : All (λ e. e.number < 2 ^ 32) m.entries
+  pub whole : AllByRecursion (λ e. length e.bytes ≡ 256) m.entries
+  pub small : AllByRecursion (λ e. e.number < 2 ^ 32) m.entries

@@ -1,6 +1,6 @@
 -- What a tier means: stored blocks, and rows of entries over them, top first.
 use Rattle.std.specs.Prelude.{◌≡◌, ℕ, ◌≤◌, true, List, [], ◌∷◌, length}
-use Rattle.std.specs.List.{AllByRecursion as All}
+use Rattle.std.specs.List.{AllByRecursion}
 use Rattle.device.specs.Store.{Store, Lawful}
 use Rattle.rings.specs.Slots.{distinct}
 use Rattle.row.specs.Entries.{RowModel, numbers}
@@ -15,8 +15,8 @@ pub record LawfulRow (r : RowModel) : Type 0 where
   pub bounded : r.capacity ≤ 65536
   pub short : length r.entries ≤ r.capacity
   pub once : distinct (numbers r.entries) ≡ true
-  pub whole : All (λ e. length e.bytes ≡ 256) r.entries
+  pub whole : AllByRecursion (λ e. length e.bytes ≡ 256) r.entries
 
 pub record LawfulModel (m : Model) : Type 0 where
   pub store : Lawful m.store
-  pub rows : All LawfulRow m.rows
+  pub rows : AllByRecursion LawfulRow m.rows

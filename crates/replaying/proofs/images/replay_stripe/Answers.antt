@@ -18,6 +18,6 @@ returns g c =
       told = search rules;
       first = first_told c.args.unit some a b f e;
       second = second_told c.args.unit some a b f e;
-      first-loans = search rules;
-      second-loans = search rules;
+      first_loans = search rules;
+      second_loans = search rules;
     }

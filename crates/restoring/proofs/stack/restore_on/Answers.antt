@@ -12,4 +12,4 @@ returns g c =
     let some : 0 < c.args.unit = omega (arith, c.set_unit.new.self.some, c.in_ok-set_unit.ensures.unit) in
     let w = sides c.args.unit some c.restore_listed.result (g.S.Source.store c.args.source.now) (g.D.Source.store c.args.stripe.now.first)
     (g.E.Source.store c.args.stripe.now.second) (g.D.Source.store c.restore_listed.new.device.first) (g.E.Source.store c.restore_listed.new.device.second) e in
-    record { answer = search rules; first = w.0; second = w.1; first-loans = search rules; second-loans = search rules }
+    record { answer = search rules; first = w.0; second = w.1; first_loans = search rules; second_loans = search rules }
