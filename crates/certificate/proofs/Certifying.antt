@@ -1,7 +1,7 @@
 -- From what a comparison answers to what it certifies.
 use Rattle.std.proofs.Common.{◌≡◌, ℕ, min, Bool, true, false, cond, eqb, List, Ok, Err, vec_items, Result, sym, refl, ap, ◌∙◌, subst, inl, inr, arith}
 use Rattle.std.proofs.lemmas.Bool.{cases_Bool, eqb-true, eqb-false, true≢false}
-use Rattle.device.specs.Store.{Same}
+use Rattle.device.specs.Store.{ReadAlike}
 use Rattle.tier.specs.Models.{Model, LawfulModel}
 use Rattle.pile.specs.declared.faults.MountFault.{MountFault}
 use Rattle.pile.specs.Laws.{Mountable, Promised, Paired, ServeAlike, served, sum_of, sound_count}
@@ -63,7 +63,7 @@ judged_apart true reads xs h = let z : ◌≡◌ {A = ℕ} 0 1 = cc in absurd (o
 judged_apart false reads xs h = (refl, cc)
 
 module _ (m n : Model) (l : LawfulModel m) (k : LawfulModel n) (i j : ℕ) where
-  module _ (f : Mountable m) (g : Mountable n) (same : Same m.store n.store) where
+  module _ (f : Mountable m) (g : Mountable n) (same : ReadAlike m.store n.store) where
     verdict_says : (v : Verdict) → seen_verdict v ≡ judged (sum_of m i) (sum_of n j) (sound_count m.store) (telling m.store (min (sum_of m i) (sum_of n j))) → Says m i n j v
     verdict_says Alike h =
         alike_if m n f g same i j (eqb-true (min (sum_of m i) (sound_count m.store)) (min (sum_of n j) (sound_count m.store))
@@ -91,7 +91,7 @@ module _ (m n : Model) (l : LawfulModel m) (k : LawfulModel n) (i j : ℕ) where
       }
 
   -- devices that were refused differ
-  refused_devices : ◌≡◌ (Err OfDevices) (compare_answer m i n j) → Same m.store n.store → ⊥
+  refused_devices : ◌≡◌ (Err OfDevices) (compare_answer m i n j) → ReadAlike m.store n.store → ⊥
   refused_devices h s =
       let p = check_refused (pair_answer m n) (weighed m i n j) OfDevices (sym h) in
       let a = then_devices First first_not (mount_answer m) (then Second (mount_answer n) (cond (same_devices m.store n.store) (Ok tt) (Err OfDevices))) p in

@@ -5,7 +5,7 @@ use Rattle.std.proofs.lemmas.Slice.Eq.{bytes_eq-Decides}
 use Rattle.std.proofs.lemmas.Bool.{cases_Bool, cases_lt, and_parts, and_from, and_right, eqb-true, eq-eqb, not-true, not-false, true≢false, lt-ltb, le-ltb}
 use Rattle.device.specs.Answers.{answer}
 use Rattle.device.specs.Below.{all_below}
-use Rattle.device.specs.Store.{Store, Lawful, Same}
+use Rattle.device.specs.Store.{Store, Lawful, ReadAlike}
 use Rattle.device.proofs.Below.{all_at, all_broken}
 use Rattle.device.proofs.Outcomes.{admitted as passed}
 use Rattle.certificate.specs.Devices.{same_block, same_devices}
@@ -40,7 +40,7 @@ module _ (s t : Store) (l : Lawful s) (k : Lawful t) where
   bytes_alike b h g = (bytes_eq-Decides (s.at b) (t.at b)).0 (and_parts (t.sound b) (bytes_eq (s.at b) (t.at b)) (rw (g, same_block) at h)).1
 
   -- devices that are found to be the same are so
-  pub same_found : same_devices s t ≡ true → Same s t
+  pub same_found : same_devices s t ≡ true → ReadAlike s t
   same_found h = record {
     size = e;
     sound = λ b. elim (cases_lt b s.size) [ inl g ↦ sound_alike b (each b g) | inr g ↦ past b s l refl (λ x. omega (arith, g, x)) ∙ sym (past b t k (sym e) (λ x. omega (arith, g, x))) ];
@@ -57,7 +57,7 @@ module _ (s t : Store) (l : Lawful s) (k : Lawful t) where
       each b g = all_at (same_block s t) s.size b p.1 g
 
   -- and only those
-  pub same_known : Same s t → same_devices s t ≡ true
+  pub same_known : ReadAlike s t → same_devices s t ≡ true
   same_known e = and_from (eqb s.size t.size) (all_below (same_block s t) s.size) (eq-eqb s.size t.size e.size) (all s.size)
     where
       one : (b : ℕ) → same_block s t b ≡ true

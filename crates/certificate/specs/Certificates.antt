@@ -1,6 +1,6 @@
 -- The certificate: what an accepted comparison proves of the two tiers, over every list of calls.
 use Rattle.std.specs.Prelude.{◌≡◌, ℕ, List, Ok, Err, vec_items, Result}
-use Rattle.device.specs.Store.{Same}
+use Rattle.device.specs.Store.{ReadAlike}
 use Rattle.tier.specs.Models.{Model}
 use Rattle.pile.specs.Laws.{Promised, Paired, ServeAlike, served}
 use Rattle.certificate.specs.declared.weighing.CompareFault.{CompareFault}
@@ -17,7 +17,7 @@ Says m j n k (Differ reads) = served m j (reads_of (vec_items reads)) ≡ served
 
 -- the laws of each tier, those of the two, and the verdict on the first j levels of one and the first k of the other
 pub record Certified (m : Model) (j : ℕ) (n : Model) (k : ℕ) (v : Verdict) : Type 0 where
-  pub same : Same m.store n.store
+  pub same : ReadAlike m.store n.store
   pub first : Promised m
   pub second : Promised n
   pub both : Paired m n
@@ -28,5 +28,5 @@ abbrev pub Certificate : Model → ℕ → Model → ℕ → Result Comparison C
 Certificate m j n k (Ok c) = Certified m j n k c.verdict
 Certificate m j n k (Err (First f)) = Unit {0}
 Certificate m j n k (Err (Second f)) = Unit {0}
-Certificate m j n k (Err OfDevices) = Same m.store n.store → ⊥
+Certificate m j n k (Err OfDevices) = ReadAlike m.store n.store → ⊥
 Certificate m j n k (Err Memory) = Unit {0}

@@ -17,8 +17,14 @@ pub record Lawful (s : Store) : Type 0 where
   pub there : (b : ℕ) → s.sound b ≡ true → b < s.size
   pub whole : (b : ℕ) → b < s.size → length (s.at b) ≡ 256
 
--- two stores that no read can tell apart: as many blocks, the same ones defective, and the same bytes in each that is not
+-- two stores that no read can tell apart: as many blocks, the same bytes in each, the same ones defective
 pub record Same (s t : Store) : Type 0 where
+  pub size : s.size ≡ t.size
+  pub at : (b : ℕ) → b < s.size → s.at b ≡ t.at b
+  pub sound : (b : ℕ) → s.sound b ≡ t.sound b
+
+-- all that a read can tell: as many blocks, the same ones defective, and the same bytes in each that is not
+pub record ReadAlike (s t : Store) : Type 0 where
   pub size : s.size ≡ t.size
   pub sound : (b : ℕ) → s.sound b ≡ t.sound b
   pub at : (b : ℕ) → s.sound b ≡ true → s.at b ≡ t.at b

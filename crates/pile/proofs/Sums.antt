@@ -6,7 +6,7 @@ use Rattle.std.proofs.ByRecursion.{All-take, All-get_or, All-append}
 use Rattle.std.proofs.lemmas.List.{map-append, reverse-append, take_all, take_more, take-append-le, length-take-le, length-append}
 use Rattle.std.proofs.lemmas.Bool.{cases_Bool, cases_eq, cases_order, or_parts, or_from, or_left, or_right, or_cases, eqb-true, eqb-false, eq-eqb, ne_eqb, lt-ltb, true≢false, cond-true as cond_yes, cond-false as cond_no}
 use Rattle.device.specs.Answers.{answer}
-use Rattle.device.specs.Store.{Store, Same, Lawful, put}
+use Rattle.device.specs.Store.{Store, ReadAlike, Lawful, put}
 use Rattle.device.proofs.Outcomes.{admitted as passed}
 use Rattle.tier.specs.Models.{Model}
 use Rattle.pile.specs.declared.faults.PileFault.TheVariants.{Full}
@@ -98,7 +98,7 @@ trail_sound (write b v ∷ cs) d h = elim (cases_Bool (is_ok (bare_admitted d b 
     left k go = subst (λ x. Sound d.store.sound d.store.size (bare_after cs x).trail) (sym (cond_no (is_ok (bare_admitted d b (length v))) record { store = put d.store b v; trail = b ∷ d.trail } d k)) go
 
 -- the two piles serve by their sums and the one trail
-module _ (m n : Model) (f : Mountable m) (g : Mountable n) (same : Same m.store n.store) (j k : ℕ) where
+module _ (m n : Model) (f : Mountable m) (g : Mountable n) (same : ReadAlike m.store n.store) (j k : ℕ) where
   pub first_served : (cs : List Call) → served m j cs ≡ within (sum_of m j) (trail_of cs m.store)
   first_served cs = counted m f cs j
 
@@ -236,7 +236,7 @@ telling s l a h =
       enough = λ k g. met (get_or (passing s.sound s.size) a 0) (take a (passing s.sound s.size)) once_each k (omega (arith, front, g));
     }
 
-module _ (m n : Model) (f : Mountable m) (g : Mountable n) (same : Same m.store n.store) (j k : ℕ) where
+module _ (m n : Model) (f : Mountable m) (g : Mountable n) (same : ReadAlike m.store n.store) (j k : ℕ) where
   -- the smaller sum is told apart from the greater where there are sound blocks enough
   pub told_apart : (t : ℕ) (w : Telling m.store t) → (served m j (reads_for w.trail) ≡ within (sum_of m j) w.trail) × (served n k (reads_for w.trail) ≡ within (sum_of n k) w.trail)
   told_apart t w =
@@ -294,5 +294,5 @@ module _ (m n : Model) (f : Mountable m) (g : Mountable n) (same : Same m.store 
       settle : min (sum_of m j) (sound_count m.store) ≡ min (sum_of n k) (sound_count m.store) → min (sum_of m j) (sum_of n k) < sound_count m.store → sum_of m j ≡ sum_of n k
       settle e h = omega (arith, e, h)
 
-pub paired : (m n : Model) → Mountable m → Mountable n → Same m.store n.store → Paired m n
+pub paired : (m n : Model) → Mountable m → Mountable n → ReadAlike m.store n.store → Paired m n
 paired m n f g same = record { alike = alike m n f g same; sharp = sharp m n f g same; equal_sums = equal_sums m n f g same }

@@ -2,7 +2,7 @@
 use Rattle.std.proofs.Common.{◌≡◌, ℕ, ◌<◌, Bool, true, false, cond, eqb, ltb, ◌⊎◌, List, [], ◌∷◌, length, is_ok, Ok, Err, Result, sym, refl, ap, ◌∙◌, subst, inl, inr}
 use Rattle.std.proofs.lemmas.Bool.{cases_Bool, cond-true as cond_yes, cond-false as cond_no}
 use Rattle.device.specs.Answers.{answer, checked}
-use Rattle.device.specs.Store.{Store, Same, put}
+use Rattle.device.specs.Store.{Store, Lawful, Same, ReadAlike, put}
 use Rattle.device.proofs.Outcomes.{admitted as passed}
 use Rattle.tier.specs.Models.{Model}
 use Rattle.pile.specs.declared.faults.PileFault.TheVariants.{Full}
@@ -13,7 +13,7 @@ use Rattle.pile.proofs.Promised.{transparent}
 use Rattle.pile.proofs.Runs.{wrapped_ok}
 
 pub record Twin (d e : Bare) : Type 0 where
-  pub store : Same d.store e.store
+  pub store : ReadAlike d.store e.store
   pub trail : d.trail ≡ e.trail
 
 module _ (d e : Bare) (tw : Twin d e) where
@@ -28,7 +28,7 @@ module _ (d e : Bare) (tw : Twin d e) where
   usable : (b n : ℕ) → is_ok (bare_admitted d b n) ≡ true → d.store.sound b ≡ true
   usable b n h = (passed d.store b n (wrapped_ok (answer d.store b n) (cond (ltb (length d.trail) 4000000000) (Ok tt) (Err Full)) h)).usable
 
-  put_same : (b : ℕ) (v : List ℕ) → Same (put d.store b v) (put e.store b v)
+  put_same : (b : ℕ) (v : List ℕ) → ReadAlike (put d.store b v) (put e.store b v)
   put_same b v = record { size = tw.store.size; at = λ n h. ap (λ x. cond (eqb n b) v x) (tw.store.at n h); sound = tw.store.sound }
 
   pub twin_step : (c : Call) → Twin (bare_stepped c d) (bare_stepped c e) × (bare_answered c d ≡ bare_answered c e)
@@ -84,11 +84,15 @@ twin_after : (cs : List Call) (d e : Bare) → Twin d e → Twin (bare_after cs 
 twin_after [] d e tw = tw
 twin_after (c ∷ cs) d e tw = twin_after cs (bare_stepped c d) (bare_stepped c e) (twin_step d e tw c).0
 
-mounted_twins : (s t : Store) → Same s t → Twin (bare s) (bare t)
+mounted_twins : (s t : Store) → ReadAlike s t → Twin (bare s) (bare t)
 mounted_twins s t h = record { store = h; trail = refl }
 
-pub same_trail : (s t : Store) → Same s t → (cs : List Call) → trail_of cs s ≡ trail_of cs t
+pub same_trail : (s t : Store) → ReadAlike s t → (cs : List Call) → trail_of cs s ≡ trail_of cs t
 same_trail s t h cs = (twin_after cs (bare s) (bare t) (mounted_twins s t h)).trail
 
-pub alike : (m n : Model) → Mountable m → Mountable n → Same m.store n.store → Alike m n
+pub alike : (m n : Model) → Mountable m → Mountable n → ReadAlike m.store n.store → Alike m n
 alike m n f g h cs = transparent m f cs ∙ (twin_answers cs (bare m.store) (bare n.store) (mounted_twins m.store n.store h) ∙ sym (transparent n g cs))
+
+-- stores that are the same read alike
+pub same_reads : (s t : Store) → Lawful s → Same s t → ReadAlike s t
+same_reads s t l e = record { size = e.size; sound = e.sound; at = λ b h. e.at b (l.there b h) }

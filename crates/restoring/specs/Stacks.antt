@@ -71,6 +71,6 @@ first_after r u s d = side_after r (first_block u) s d
 abbrev pub second_after : Result ℕ StackFault → ℕ → Store → Store → (ℕ → List ℕ)
 second_after r u s d = side_after r (second_block u) s d
 
--- bytes are told by their blocks, those past the last whole one included: no other bytes have the same (shut, since a search would try it on every two lists at hand)
-unfoldable pub BlocksTell : Type 0
+-- bytes are told by their blocks, those past the last whole one included: no other bytes have the same
+abbrev pub BlocksTell : Type 0
 BlocksTell = (xs ys : List ℕ) → (of_bytes xs).at ≡ (of_bytes ys).at → xs ≡ ys
