@@ -1,6 +1,6 @@
 // Replaying from bytes to bytes.
 ghost use Rattle.std.specs.Prelude.{◌≡◌, ◌≤◌, false, [], length, is_ok, if◌then◌else◌, Ok};
-ghost use Rattle.std.specs.Vec.{«vec_items» as items, «vec-cap» as room};
+ghost use Rattle.std.specs.Vec.{«vec_items» as items, vec_capacity as room};
 ghost use Rattle.device.specs.Bytes.{of_bytes as blocks};
 ghost use Rattle.formats.specs.Seen.{listed};
 ghost use Rattle.formats.specs.SheetLaws.{Lawful};

@@ -4,8 +4,8 @@ use Rattle.certificate.proofs.Passing.{skipped, taken, one_moved, none_left, non
 use Rattle.certificate.proofs.reads.greatest_sound.Goals as goal
 use Rattle.certificate.proofs.reads.greatest_sound.Goals.{then-loop-left-test+else-len-count, else-loop-left-test}
 
-pub loop-left-preserved-in-Continue· : goal.loop-left-preserved-in-Continue·
-loop-left-preserved-in-Continue· g c =
+pub loop-left-preserved-in-Continue-1 : goal.loop-left-preserved-in-Continue-1
+loop-left-preserved-in-Continue-1 g c =
     let f = (g.T.Tier.model c.args.tier.now).store.sound in
     let xs = vec_items c.loop-left.found in
     let had = vec_len c.loop-left.found in
