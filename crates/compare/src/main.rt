@@ -114,7 +114,7 @@ fn run(rt: &HostRuntime) -> anyhow::Result<()> {
     let mut words = env::args(rt)?;
     let _program = words.next();
     let (Some(one), Some(other)) = (words.next(), words.next()) else {
-        return Err(USAGE.into());
+        return Err(anyhow!("{USAGE}"));
     };
     let j = levels(words.next())?;
     let k = levels(words.next())?;

@@ -3,7 +3,8 @@ use Rattle.std.proofs.Common.{◌≡◌, ℕ, suc, ◌+◌, ◌-◌, List, [], �
 use Rattle.std.proofs.lemmas.List.{append-nil, append_cancel_left, map-append, take-append-drop, take-take, drop-take}
 use Rattle.row.specs.Entries.{RowModel}
 use Rattle.pile.specs.Recency.{within, flat, numbers, room, total}
-use Rattle.examples.specs.Rows.{empty_rows, names_of}
+use Rattle.examples.specs.Examples.{names_of}
+use Rattle.examples.specs.Runs.{empty_rows}
 
 -- a list cut into pieces of these lengths
 abbrev pub pieces : List ℕ → List ℕ → List (List ℕ)

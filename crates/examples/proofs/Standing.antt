@@ -15,8 +15,8 @@ use Rattle.pile.proofs.Promised.{recent, counted, tallied}
 use Rattle.pile.proofs.Runs.{run_kept, mount_kept}
 use Rattle.pile.proofs.Sums.{reads_turned, reads_trail}
 use Rattle.pile.proofs.Touches.{Inv, same_count}
-use Rattle.examples.specs.Rows.{empty_rows, names_of}
-use Rattle.examples.specs.Runs.{run, RunStands}
+use Rattle.examples.specs.Examples.{names_of}
+use Rattle.examples.specs.Runs.{empty_rows, run, RunStands}
 use Rattle.examples.proofs.Pieces.{pieces, shares, rows_pieces, hits_shares}
 
 all_reverse : {X : Type 0} (P : X → Type 0) (xs : List X) → All P xs → All P (reverse xs)

@@ -1,3 +1,2 @@
-pub mod Rows
-pub mod Runs
 pub mod Examples
+pub mod Runs

@@ -66,7 +66,7 @@ fn write_back(rt: &HostRuntime, path: &str, bytes: &[u8]) -> io::Result<()> {
 fn lists_second(rt: &HostRuntime, sheet: &[u8]) -> anyhow::Result<bool> {
     match read_sheet(rt.alloc(), sheet) {
         Ok(listed) => Ok(matches!(listed.images, Images::Striped(_))),
-        Err(SheetFault::Memory) => Err(NO_MEMORY.into()),
+        Err(SheetFault::Memory) => Err(anyhow!("{NO_MEMORY}")),
         Err(_) => Ok(false),
     }
 }
@@ -99,7 +99,7 @@ fn print_refusal(rt: &HostRuntime, fault: ReplayFault) -> anyhow::Result<()> {
         | ReplayFault::Sheet(SheetFault::Extra(at)) => println!(rt; "sheet {number} at {at}")?,
         ReplayFault::Trace(TraceFault::Broken(line)) => println!(rt; "trace {number} at {line}")?,
         ReplayFault::Sheet(SheetFault::Memory) | ReplayFault::Memory => {
-            return Err(NO_MEMORY.into());
+            return Err(anyhow!("{NO_MEMORY}"));
         }
     }
     Ok(())
