@@ -1,10 +1,10 @@
 -- From what a comparison answers to what it certifies.
-use Rattle.std.proofs.Common.{◌≡◌, ℕ, min, Bool, true, false, cond, eqb, List, Ok, Err, vec_items, Result, sym, refl, ap, ◌∙◌, subst, inl, inr, arith}
-use Rattle.std.proofs.lemmas.Bool.{cases_Bool, eqb-true, eqb-false, true≢false}
+use Rattle.std.proofs.Common.{◌≡◌, ℕ, min, Bool, true, false, cond, eqb, List, Ok, Err, vec_items, Result, sym, refl, ap, ◌∙◌, subst, arith}
+use Rattle.std.proofs.lemmas.Bool.{eqb-true, eqb-false, true≢false}
 use Rattle.device.specs.Store.{ReadAlike}
 use Rattle.tier.specs.Models.{Model, LawfulModel}
 use Rattle.pile.specs.declared.faults.MountFault.{MountFault}
-use Rattle.pile.specs.Laws.{Mountable, Promised, Paired, ServeAlike, served, sum_of, sound_count}
+use Rattle.pile.specs.Laws.{Mountable, served, sum_of, sound_count}
 use Rattle.pile.specs.Mounts.{mount_answer}
 use Rattle.pile.specs.Reads.{reads_of, telling}
 use Rattle.pile.proofs.Mounting.{mountable}
@@ -17,7 +17,7 @@ use Rattle.certificate.specs.declared.weighing.Verdict.{Verdict}
 use Rattle.certificate.specs.declared.weighing.Verdict.TheVariants.{Alike, Differ}
 use Rattle.certificate.specs.Certificates.{Says, Certified, Certificate}
 use Rattle.certificate.specs.Devices.{same_devices}
-use Rattle.certificate.specs.Weighings.{Judgement, alike, apart, Weighing, judged, weighed, then, pair_answer, after_check, compare_answer, seen_verdict, seen_comparison, seen, memory_or}
+use Rattle.certificate.specs.Weighings.{alike, apart, Weighing, judged, weighed, then, pair_answer, after_check, compare_answer, seen_verdict, seen_comparison, seen, memory_or}
 use Rattle.certificate.proofs.Sameness.{same_found, same_known}
 
 -- an accepted check passed both parts

@@ -1,12 +1,11 @@
 -- Summing capacities and counting sound blocks, one by one.
-use Rattle.std.proofs.Common.{◌≡◌, ℕ, zero, suc, ◌+◌, ◌-◌, ◌*◌, ◌<◌, ◌≤◌, min, Bool, true, false, cond, eqb, List, [], ◌∷◌, length, take, Some, None, Option, sym, refl, ap, ◌∙◌, inl, inr, add-one, arith}
-use Rattle.std.specs.Option.{option_map}
+use Rattle.std.proofs.Common.{◌≡◌, ℕ, zero, suc, ◌+◌, ◌≤◌, min, Bool, true, false, List, [], ◌∷◌, length, take, Some, None, sym, ap, ◌∙◌, inl, inr, add-one, arith}
 use Rattle.std.specs.List.{AllByRecursion as All}
 use Rattle.std.proofs.lemmas.List.{take_all}
 use Rattle.std.proofs.lemmas.Bool.{cases_lt, ne_eqb}
 use Rattle.row.specs.Entries.{RowModel}
 use Rattle.tier.specs.Models.{LawfulRow}
-use Rattle.tier.specs.Questions.{nth, capacity_of}
+use Rattle.tier.specs.Questions.{capacity_of}
 use Rattle.pile.specs.Recency.{room, count_below}
 
 -- one more number counted

@@ -1,8 +1,8 @@
 -- Comparing two devices block by block.
-use Rattle.std.proofs.Common.{◌≡◌, ℕ, zero, suc, ◌<◌, Bool, true, false, cond, not, ◌&&◌, eqb, List, Ok, Decides, sym, refl, ap, ◌∙◌, subst, inl, inr, arith}
+use Rattle.std.proofs.Common.{◌≡◌, ℕ, zero, suc, ◌<◌, Bool, true, false, eqb, List, Ok, Decides, sym, refl, ◌∙◌, subst, inl, inr, arith}
 use Rattle.std.specs.Str.{bytes_eq}
 use Rattle.std.proofs.lemmas.Slice.Eq.{bytes_eq-Decides}
-use Rattle.std.proofs.lemmas.Bool.{cases_Bool, cases_lt, and_parts, and_from, and_right, eqb-true, eq-eqb, not-true, not-false, true≢false, lt-ltb, le-ltb}
+use Rattle.std.proofs.lemmas.Bool.{cases_Bool, cases_lt, and_parts, and_from, and_right, eqb-true, eq-eqb, not-true, true≢false}
 use Rattle.device.specs.Answers.{answer}
 use Rattle.device.specs.Below.{all_below}
 use Rattle.device.specs.Store.{Store, Lawful, ReadAlike}

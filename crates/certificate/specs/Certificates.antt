@@ -1,5 +1,5 @@
 -- The certificate: what an accepted comparison proves of the two tiers, over every list of calls.
-use Rattle.std.specs.Prelude.{◌≡◌, ℕ, List, Ok, Err, vec_items, Result}
+use Rattle.std.specs.Prelude.{◌≡◌, ℕ, Ok, Err, vec_items, Result}
 use Rattle.device.specs.Store.{ReadAlike}
 use Rattle.tier.specs.Models.{Model}
 use Rattle.pile.specs.Laws.{Promised, Paired, ServeAlike, served}

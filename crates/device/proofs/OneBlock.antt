@@ -1,12 +1,12 @@
 -- Bytes as blocks, under a write to the part that one block is.
-use Rattle.std.proofs.Common.{◌≡◌, ℕ, ◌+◌, ◌-◌, ◌*◌, ◌/◌, ◌<◌, ◌≤◌, min, cond, eqb, ltb, ◌⊎◌, List, length, take, drop, sym, refl, ap, ◌∙◌, inl, inr, arith, length-append, length-drop, length-take}
+use Rattle.std.proofs.Common.{◌≡◌, ℕ, ◌+◌, ◌-◌, ◌*◌, ◌/◌, ◌≤◌, min, cond, eqb, ltb, List, length, take, drop, sym, ap, ◌∙◌, inl, inr, arith, length-append, length-drop, length-take}
 use borrow.Rule.Slice.PartMut.{put_mid}
 use native.Mathlib.Nat.{sub-zero}
 use Rattle.std.proofs.lemmas.List.{drop-take, drop_at, length-take-le, take_rest}
 use Rattle.std.proofs.lemmas.Slice.{take-put_mid_below, take-put_mid, drop-put_mid}
 use Rattle.std.proofs.lemmas.Bool.{cases_Bool, cases_order, eqb-true, eqb-false}
-use Rattle.device.specs.Store.{Store, put}
-use Rattle.device.specs.Bytes.{of_bytes, block_count}
+use Rattle.device.specs.Store.{put}
+use Rattle.device.specs.Bytes.{of_bytes}
 
 -- k bytes written at a
 module _ (xs v : List ℕ) (a k : ℕ) (there : a + k ≤ length xs) (full : length v ≡ k) where

@@ -1,5 +1,5 @@
 -- Bytes seen as blocks are a lawful store.
-use Rattle.std.specs.Prelude.{◌≡◌, ℕ, ◌+◌, ◌*◌, ◌<◌, ◌≤◌, min, List, length, take, drop}
+use Rattle.std.specs.Prelude.{ℕ, ◌+◌, ◌*◌, ◌<◌, ◌≤◌, List, length}
 use Rattle.std.proofs.Common.{arith, ltb-true, length-take, length-drop}
 use Rattle.device.specs.Store.{Lawful}
 use Rattle.device.specs.Bytes.{of_bytes, block_count}

@@ -1,7 +1,6 @@
 // Runs the devices at their edges and prints what they answer; the worked examples are proved beside it.
 #![tactic(auto)]
 
-
 mod devices;
 mod proved;
 mod restores;

@@ -1,11 +1,10 @@
 -- Readers that go from the left: what one has read stays read whatever follows, and before a broken rule nothing is broken.
-use Rattle.std.proofs.Common.{◌≡◌, ℕ, zero, suc, ◌+◌, ◌-◌, ◌*◌, ◌<◌, ◌≤◌, Bool, true, false, cond, ◌&&◌, eqb, leb, List, [], ◌∷◌, ◌++◌, length, get_or, Ok, Err, Result, sym, refl, ap, ◌∙◌, inl, inr, append_assoc, arith}
+use Rattle.std.proofs.Common.{◌≡◌, ℕ, zero, suc, ◌+◌, ◌-◌, ◌*◌, ◌<◌, ◌≤◌, Bool, true, false, cond, ◌&&◌, eqb, leb, List, [], ◌∷◌, ◌++◌, length, get_or, Ok, Err, sym, refl, ap, ◌∙◌, inl, inr, append_assoc, arith}
 use Rattle.std.proofs.lemmas.Bool.{cases_Bool, and_parts, leb-true}
 use Rattle.formats.specs.declared.sheet.Images.{Images}
 use Rattle.formats.specs.declared.sheet.Images.TheVariants.{Single, Striped}
-use Rattle.formats.specs.declared.sheet.SheetFault.{SheetFault}
 use Rattle.formats.specs.declared.sheet.SheetFault.TheVariants.{Cut, Broken, Extra, Memory}
-use Rattle.formats.specs.Sheets.{Reading, Listed, then, byte_within, number_from, entries, capacity, capacities, levels_of, single, striped, images_of, rising, defects_of, lists_of}
+use Rattle.formats.specs.Sheets.{Reading, then, byte_within, number_from, entries, capacity, capacities, levels_of, single, striped, images_of, rising, defects_of, lists_of}
 use Rattle.formats.specs.SheetLaws.{Lawful, LawfulUnit}
 
 -- an answer of the reader f on these bytes; Q holds of what it reads

@@ -1,7 +1,7 @@
 -- An item of a sheet that keeps its rules.
-use Rattle.std.proofs.Common.{◌≡◌, ℕ, suc, ◌+◌, ◌-◌, ◌*◌, ◌<◌, ◌≤◌, true, cond, ◌&&◌, leb, List, [], ◌∷◌, length, get_or, take, drop, Ok, Err, sym, refl, ap, ◌∙◌, arith}
+use Rattle.std.proofs.Common.{◌≡◌, ℕ, ◌+◌, ◌-◌, ◌*◌, ◌<◌, ◌≤◌, List, [], ◌∷◌, length, get_or, take, drop, Ok, ap, ◌∙◌, arith}
 use Rattle.std.proofs.lemmas.List.{take_rest}
-use Rattle.std.proofs.lemmas.Bool.{le-leb, and_from}
+use Rattle.std.proofs.lemmas.Bool.{le-leb}
 use Rattle.formats.specs.Sheets.{Reading, byte_within, number_from}
 
 byte_cons : (n low high b : ℕ) (rest : List ℕ) → low ≤ b → b ≤ high → ◌≡◌ {A = Reading ℕ} (Ok (b, rest)) (byte_within n low high (b ∷ rest))

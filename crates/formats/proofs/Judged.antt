@@ -1,6 +1,5 @@
 -- A trace judged line by line.
-use Rattle.std.proofs.Common.{◌≡◌, ℕ, suc, ◌+◌, ◌<◌, ◌≤◌, true, false, cond, List, [], ◌∷◌, ◌++◌, length, is_some, Some, None, Ok, Err, Option, Result, sym, refl, ap, ◌∙◌, inl, inr, arith, length-append}
-use Rattle.formats.specs.declared.trace.TraceFault.{TraceFault}
+use Rattle.std.proofs.Common.{◌≡◌, ℕ, suc, ◌+◌, ◌<◌, cond, List, [], ◌∷◌, length, is_some, Some, None, Err, Option, sym, refl, ap, ◌∙◌, arith, length-append}
 use Rattle.formats.specs.declared.trace.TraceFault.TheVariants.{Broken}
 use Rattle.formats.specs.Traces.{Said, said, cut, lines, beside, said_first, first_line, judged_after}
 use Rattle.formats.proofs.Cuts.{cut_parts, lines_by, lines_cut}

@@ -1,10 +1,10 @@
 -- The lines of a report: how long they are, and how they are written one after another.
-use Rattle.std.proofs.Common.{◌≡◌, ℕ, suc, ◌+◌, ◌-◌, ◌<◌, ◌≤◌, Bool, true, false, cond, leb, List, [], ◌∷◌, ◌++◌, length, get_or, take, drop, Ok, Err, codes, decimal, Result, sym, refl, ap, ◌∙◌, inl, inr, arith, length-append}
+use Rattle.std.proofs.Common.{◌≡◌, ℕ, ◌+◌, ◌-◌, ◌<◌, ◌≤◌, true, false, leb, List, [], ◌++◌, length, get_or, drop, decimal, sym, ap, ◌∙◌, inl, inr, arith, length-append}
 use Rattle.std.proofs.lemmas.List.{drop_more, drop_all}
-use Rattle.std.proofs.lemmas.Bool.{le-leb, lt-leb, leb-true, leb-false, cases_Bool, cases_lt, true≢false}
+use Rattle.std.proofs.lemmas.Bool.{le-leb, lt-leb, cases_lt}
 use Rattle.formats.specs.declared.report.LevelTally.{LevelTally}
-use Rattle.formats.specs.Reports.{field, level_line, level_lines, last_line, last_lines, report, placed, Wrote}
-use Rattle.formats.proofs.Placed.{placed_append, placed_none, wrote_more}
+use Rattle.formats.specs.Reports.{level_line, level_lines, last_lines, report, placed, Wrote}
+use Rattle.formats.proofs.Placed.{placed_append}
 
 -- what stands past the last level
 abbrev pub blank : LevelTally

@@ -1,11 +1,11 @@
 -- The laws of judging and taking lines.
-use Rattle.std.proofs.Common.{◌≡◌, ℕ, zero, suc, ◌+◌, ◌<◌, Bool, true, false, cond, List, [], ◌∷◌, length, get_or, is_some, Some, None, Ok, Err, codes, Option, Result, sym, refl, ap, ◌∙◌, inl, inr, arith}
+use Rattle.std.proofs.Common.{◌≡◌, ℕ, zero, suc, ◌+◌, ◌<◌, true, false, List, [], ◌∷◌, length, get_or, is_some, Some, None, Ok, Err, codes, Option, Result, refl, ap, ◌∙◌, inl, inr, arith}
 use Rattle.std.proofs.lemmas.Slice.Eq.{bytes_eq-Decides}
 use Rattle.std.proofs.lemmas.Bool.{cases_Bool}
 use Rattle.formats.specs.declared.trace.TraceFault.{TraceFault}
 use Rattle.formats.specs.declared.trace.TraceFault.TheVariants.{Broken}
-use Rattle.formats.specs.Traces.{Said, said, cut, lines, lawful_line, is_header, judged_after, bodied, judged_by, judged, beside, said_first, first_line}
-use Rattle.formats.specs.TraceLaws.{heads, keeps, keeps_at, Judgement, JudgedRightly, Taking, TakenRightly}
+use Rattle.formats.specs.Traces.{Said, said, cut, lines, lawful_line, is_header, judged_after, bodied, judged_by, beside, said_first}
+use Rattle.formats.specs.TraceLaws.{heads, keeps, Judgement, JudgedRightly, Taking, TakenRightly}
 use Rattle.formats.proofs.Cuts.{lines_by, lines_cut}
 
 -- the same of the lines after so many

@@ -4,7 +4,7 @@ use Rattle.std.specs.Borrow.{Bor}
 use Rattle.formats.specs.declared.trace.Line.{Line}
 use Rattle.formats.specs.declared.trace.Line.TheVariants.{Read, Write, Sync}
 use Rattle.formats.specs.declared.trace.TraceFault.{TraceFault}
-use Rattle.formats.specs.Traces.{Said, read, write, sync, cut, said}
+use Rattle.formats.specs.Traces.{Said, read, write, sync}
 
 abbrev pub shown : Line → Said
 shown (Read number) = read number.now

@@ -1,14 +1,13 @@
 -- The two loops of a restore: every block checked, every block copied.
-use Rattle.std.proofs.Common.{◌≡◌, ℕ, zero, suc, ◌+◌, ◌<◌, ◌≤◌, Bool, true, false, cond, ◌&&◌, eqb, ltb, leb, Ok, Err, Result, sym, refl, ap, ◌∙◌, inl, inr, add-one, arith}
+use Rattle.std.proofs.Common.{◌≡◌, ℕ, ◌+◌, ◌<◌, ◌≤◌, true, false, cond, ◌&&◌, eqb, ltb, leb, Ok, Err, Result, sym, ap, ◌∙◌, inl, inr, arith}
 use Rattle.device.specs.declared.fault.DeviceFault.{DeviceFault}
-use Rattle.std.proofs.lemmas.Bool.{and_from, and_left, and_right, and_parts, cases_eq, cases_Bool, eqb-true, eqb-false, ltb-true, ltb-false, lt-ltb, le-ltb, le-leb, lt-leb, leb-true, eq-eqb, ne_eqb, true≢false}
+use Rattle.std.proofs.lemmas.Bool.{and_parts, cases_Bool, eqb-true, eqb-false, ltb-true, ltb-false, lt-ltb, le-ltb, le-leb}
 use Rattle.device.specs.declared.fault.DeviceFault.TheVariants.{Defective}
-use Rattle.device.specs.Answers.{answer, written}
+use Rattle.device.specs.Answers.{answer}
 use Rattle.device.specs.Store.{Store, Lawful, put}
 use Rattle.device.proofs.Outcomes.{written_ok}
-use Rattle.layers.specs.declared.restoring.RestoreFault.TheVariants.{Short, Block}
+use Rattle.layers.specs.declared.restoring.RestoreFault.TheVariants.{Block}
 use Rattle.layers.specs.Copies.{copy_answer, copy_store}
-use Rattle.device.specs.Below.{all_below}
 use Rattle.device.proofs.Below.{all_broken, all_at}
 use Rattle.layers.specs.Restores.{restorable, restore_answer, copied}
 

@@ -1,6 +1,6 @@
 -- A list of defective blocks over a store.
-use Rattle.std.specs.Prelude.{◌≡◌, ℕ, Bool, true, false, cond, not, ◌&&◌, ◌||◌, List, [], ◌∷◌, ◌++◌, length, is_ok, Ok, Err, Result, ◌==◌, nat_lt, slice_index, refl}
-use Rattle.device.specs.Store.{Store, Lawful}
+use Rattle.std.specs.Prelude.{ℕ, Bool, true, false, cond, not, ◌&&◌, ◌||◌, List, [], ◌∷◌, ◌++◌, length, is_ok, Ok, Err, Result, ◌==◌, nat_lt, slice_index}
+use Rattle.device.specs.Store.{Store}
 use Rattle.layers.specs.declared.defects.DefectFault.{DefectFault}
 use Rattle.layers.specs.declared.defects.DefectFault.TheVariants.{NotGreater, Full, Memory}
 

@@ -1,5 +1,5 @@
 -- A store under a defect list is lawful where the store below is.
-use Rattle.std.specs.Prelude.{◌≡◌, ℕ, not, List}
+use Rattle.std.specs.Prelude.{ℕ, not, List}
 use Rattle.std.proofs.lemmas.Bool.{and_parts}
 use Rattle.device.specs.Store.{Store, Lawful}
 use Rattle.layers.specs.Defects.{masked, listed}

@@ -1,11 +1,10 @@
 -- Two lawful stores striped into one are a lawful store.
-use Rattle.std.specs.Prelude.{◌≡◌, ℕ, ◌+◌, ◌*◌, ◌/◌, ◌%◌, ◌<◌, ◌≤◌, min, Bool, true, false, cond, length, ◌==◌, nat_lt, refl}
-use Rattle.std.proofs.Common.{sym, ap, ◌∙◌, inl, inr, mul_assoc, mul_comm, mul-add, zero-mul, mul-le-mul_left, mod-lt, div-le_self, div-lt_iff_lt-mul, arith}
+use Rattle.std.specs.Prelude.{◌≡◌, ℕ, ◌+◌, ◌*◌, ◌/◌, ◌%◌, ◌<◌, ◌≤◌, min, Bool, true, false, cond, length, ◌==◌, nat_lt}
+use Rattle.std.proofs.Common.{inl, inr, mul_assoc, mul_comm, mul-add, zero-mul, mul-le-mul_left, mod-lt, arith}
 use Rattle.std.proofs.Math.Nat.{mul-div-le, div-add-mod}
 use Rattle.std.proofs.lemmas.Nat.{div_below}
-use Rattle.std.proofs.lemmas.Bool.{and_parts, ltb-true, cases_Bool, cases_eq}
+use Rattle.std.proofs.lemmas.Bool.{and_parts, ltb-true, cases_eq}
 use Rattle.device.specs.Store.{Store, Lawful}
-use Rattle.layers.specs.declared.home.Home.{Home}
 use Rattle.layers.specs.declared.home.Home.TheVariants.{First, Second}
 use Rattle.layers.specs.Stripes.{home, home_at, home_sound, striped, striped_size}
 

@@ -1,5 +1,5 @@
 -- Two stores striped into one.
-use Rattle.std.specs.Prelude.{ℕ, ◌+◌, ◌*◌, ◌/◌, ◌%◌, min, Bool, cond, ◌&&◌, List, is_ok, Ok, Err, Result, ◌==◌, nat_le, nat_lt}
+use Rattle.std.specs.Prelude.{ℕ, ◌+◌, ◌*◌, ◌/◌, ◌%◌, min, Bool, cond, ◌&&◌, List, Ok, Err, Result, ◌==◌, nat_le, nat_lt}
 use Rattle.device.specs.Store.{Store}
 use Rattle.layers.specs.declared.home.Home.{Home}
 use Rattle.layers.specs.declared.home.Home.TheVariants.{First, Second}

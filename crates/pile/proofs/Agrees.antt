@@ -1,14 +1,13 @@
 -- What entries and stored blocks together say of each block: an entry has the wanted bytes, and where it is saved, or where there is none, the stored block has them.
-use Rattle.std.proofs.Common.{◌≡◌, ℕ, zero, suc, ◌+◌, ◌<◌, ◌≤◌, Bool, true, false, cond, eqb, ◌⊎◌, List, [], ◌∷◌, ◌++◌, length, Some, None, Ok, Option, sym, refl, ap, ◌∙◌, subst, inl, inr, arith}
+use Rattle.std.proofs.Common.{◌≡◌, ℕ, true, false, cond, eqb, List, [], ◌∷◌, ◌++◌, length, Some, None, Ok, Option, sym, refl, ap, ◌∙◌, subst, inl, inr}
 use Rattle.std.specs.List.{AllByRecursion as All}
-use Rattle.std.proofs.lemmas.Bool.{cases_Bool, or_parts, or_from, eqb-true, eqb-false, eq-eqb, ne_eqb, true≢false, cond-true as cond_yes, cond-false as cond_no}
-use Rattle.device.specs.Answers.{answer, written}
-use Rattle.device.specs.Store.{Store, put}
+use Rattle.std.proofs.lemmas.Bool.{cases_Bool, or_parts, or_from, eqb-true, eqb-false, eq-eqb, ne_eqb, cond-true as cond_yes, cond-false as cond_no}
+use Rattle.device.specs.Answers.{answer}
+use Rattle.device.specs.Store.{Store}
 use Rattle.device.proofs.Outcomes.{written_ok}
 use Rattle.row.specs.Entries.{Entry, is_saved, find_entry as look, without}
 use Rattle.tier.specs.Demotions.{settled, refusal_of}
-use Rattle.pile.proofs.Entries.{names, distinct, option_cases, look_fresh, look_none, names_without, names_parts, distinct_head, distinct_right}
-use Rattle.pile.proofs.Settling.{fall_store, fall_drop}
+use Rattle.pile.proofs.Entries.{names, distinct, look_fresh, names_parts, distinct_head}
 
 abbrev pub fits : Option Entry → List ℕ → List ℕ → Type 0
 fits None stored wanted = stored ≡ wanted

@@ -1,12 +1,12 @@
 -- The tallies of the levels: a touch counts for the first j levels exactly where they have its block.
-use Rattle.std.proofs.Common.{◌≡◌, ℕ, zero, suc, ◌+◌, ◌<◌, ◌≤◌, Bool, true, false, cond, ◌||◌, eqb, ◌⊎◌, List, [], ◌∷◌, ◌++◌, length, take, replicate, Some, None, Option, sym, refl, ap, ◌∙◌, inl, inr, arith}
+use Rattle.std.proofs.Common.{◌≡◌, ℕ, zero, suc, ◌+◌, ◌<◌, Bool, true, false, cond, ◌||◌, eqb, List, [], ◌∷◌, ◌++◌, length, take, replicate, Some, None, Option, sym, refl, ap, ◌∙◌, inl, inr, arith}
 use Rattle.std.specs.Option.{option_map}
 use Rattle.std.proofs.lemmas.Bool.{or_parts}
 use Rattle.row.specs.Entries.{Entry, find_entry as look, RowModel}
 use Rattle.tier.specs.Lifts.{Found, found, deeper, or_below}
 use Rattle.pile.specs.Piles.{add_at}
 use Rattle.pile.specs.Recency.{flat, total}
-use Rattle.pile.proofs.Entries.{names, option_cases, look_none, look_some, names_left, names_append, names_parts}
+use Rattle.pile.proofs.Entries.{names, option_cases, look_none, look_some, names_left}
 
 -- the tallies of the levels after a touch
 abbrev pub hit : Option Found → List ℕ → List ℕ

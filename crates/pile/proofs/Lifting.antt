@@ -1,5 +1,5 @@
 -- What the label of a lifted block tells of where it was.
-use Rattle.std.proofs.Common.{◌≡◌, ℕ, ◌≤◌, List, length, Some, None, Option, sym, refl, ap, ◌∙◌, arith}
+use Rattle.std.proofs.Common.{◌≡◌, ℕ, ◌≤◌, length, Some, None, Option, sym, ap, ◌∙◌, arith}
 use Rattle.std.specs.Option.{option_map}
 use Rattle.tier.specs.declared.faults.Lifted.{Lifted}
 use Rattle.tier.specs.Lifts.{Found, label_of}

@@ -1,5 +1,5 @@
 -- The laws, from what every run keeps.
-use Rattle.std.proofs.Common.{◌≡◌, ℕ, List, [], ◌∷◌, ◌++◌, length, take, sym, refl, ap, ◌∙◌, subst}
+use Rattle.std.proofs.Common.{◌≡◌, List, [], ◌∷◌, ◌++◌, take, sym, refl, ap, ◌∙◌}
 use Rattle.std.proofs.lemmas.List.{take-map, take-take}
 use Rattle.tier.specs.Models.{Model}
 use Rattle.pile.specs.Bare.{bare, bare_after}

@@ -1,21 +1,19 @@
 -- What holds from mounting on: one call, and a list of calls.
-use Rattle.std.proofs.Common.{◌≡◌, ℕ, zero, suc, ◌+◌, ◌<◌, ◌≤◌, Bool, true, false, cond, eqb, ltb, ◌⊎◌, List, [], ◌∷◌, ◌++◌, length, take, replicate, is_ok, Some, None, Ok, Err, Option, Result, sym, refl, ap, ◌∙◌, subst, inl, inr, arith}
+use Rattle.std.proofs.Common.{◌≡◌, ℕ, ◌<◌, true, false, cond, eqb, ltb, List, [], ◌∷◌, ◌++◌, length, take, replicate, is_ok, Some, None, Ok, Err, Option, Result, sym, refl, ap, ◌∙◌, subst, inl, inr, arith}
 use Rattle.std.proofs.lemmas.List.{length-replicate, take_all}
-use Rattle.std.proofs.lemmas.Bool.{cases_Bool, eqb-true, eqb-false, eq-eqb, ne_eqb, true≢false, cond-true as cond_yes, cond-false as cond_no}
+use Rattle.std.proofs.lemmas.Bool.{cases_Bool, eqb-false, eq-eqb, ne_eqb, true≢false, cond-true as cond_yes, cond-false as cond_no}
 use Rattle.device.specs.declared.fault.DeviceFault.{DeviceFault}
 use Rattle.device.specs.Answers.{answer}
-use Rattle.device.specs.Store.{Store, Lawful, put}
+use Rattle.device.specs.Store.{put}
 use Rattle.device.proofs.Outcomes.{admitted as passed}
-use Rattle.row.specs.declared.frame.Mark.TheVariants.{Saved, Unsaved}
-use Rattle.row.specs.Entries.{Entry, is_saved, find_entry as look, RowModel}
-use Rattle.tier.specs.declared.faults.Dropped.{Dropped}
+use Rattle.row.specs.Entries.{Entry, is_saved, RowModel}
 use Rattle.tier.specs.Lifts.{Found, found}
-use Rattle.tier.specs.Models.{Model, LawfulModel}
+use Rattle.tier.specs.Models.{Model}
 use Rattle.pile.specs.declared.faults.PileFault.{PileFault}
 use Rattle.pile.specs.declared.faults.PileFault.TheVariants.{Full}
 use Rattle.pile.specs.Bare.{Bare, bare, bare_admitted, bare_answered, bare_stepped, bare_after, bare_answers}
 use Rattle.pile.specs.Laws.{Mountable}
-use Rattle.pile.specs.Piles.{Pile, Call, read, write, sync, Answer, touches, mounted, wrapped, admitted, dropped_result, fetched, moved, touched, read_entry, write_entry, sweep, answered, stepped, after, answers}
+use Rattle.pile.specs.Piles.{Pile, Call, read, write, sync, touches, mounted, wrapped, admitted, dropped_result, fetched, moved, touched, read_entry, write_entry, sweep, answered, stepped, after, answers}
 use Rattle.pile.specs.Recency.{once, within, flat, numbers, room, total}
 use Rattle.pile.proofs.Agrees.{fits, Agree, Ready}
 use Rattle.pile.proofs.Hits.{no_hits}

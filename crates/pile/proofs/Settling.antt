@@ -1,16 +1,16 @@
 -- A block lifted out of packed rows and demoted from the top leaves packed rows, and what they hold is the entry in front of the rest, cut to their room.
-use Rattle.std.proofs.Common.{◌≡◌, ℕ, zero, suc, ◌+◌, ◌-◌, ◌<◌, ◌≤◌, Bool, true, false, cond, eqb, leb, ◌⊎◌, List, [], ◌∷◌, ◌++◌, map, length, take, drop, Some, None, Option, sym, refl, ap, ◌∙◌, subst, inl, inr, append_assoc, arith, length-append, length-drop, length-take}
+use Rattle.std.proofs.Common.{◌≡◌, ℕ, suc, ◌+◌, ◌<◌, ◌≤◌, true, false, eqb, List, [], ◌∷◌, ◌++◌, map, length, take, drop, Some, None, Option, sym, refl, ap, ◌∙◌, subst, inl, inr, append_assoc, arith, length-append}
 use Rattle.std.specs.Option.{option_map}
-use Rattle.std.proofs.lemmas.List.{take_all, drop_all, append-nil, take-append-drop, nil_from_length}
-use Rattle.std.proofs.lemmas.Bool.{cases_Bool, cases_lt, le-leb, lt-leb, or_parts, or_left, or_right, or_cases, eq-eqb, eqb-true, cond-true as cond_yes, cond-false as cond_no}
+use Rattle.std.proofs.lemmas.List.{take_all, drop_all}
+use Rattle.std.proofs.lemmas.Bool.{cases_Bool, cases_lt, le-leb, lt-leb, or_left, or_right, or_cases, eq-eqb, eqb-true}
 use Rattle.device.specs.Store.{Store}
 use Rattle.rings.specs.Slots.{last}
 use Rattle.row.specs.Entries.{Entry, is_saved, find_entry as look, without, RowModel, front}
 use Rattle.tier.specs.declared.faults.Dropped.{Dropped}
-use Rattle.tier.specs.Demotions.{Outcome, settled, in_front, kept, fallen, over, passed, demoted, raised}
+use Rattle.tier.specs.Demotions.{Outcome, settled, in_front, over, passed, demoted, raised}
 use Rattle.tier.specs.Lifts.{lifted, lose_in, lose_or_below}
 use Rattle.pile.specs.Recency.{flat, room}
-use Rattle.pile.proofs.Entries.{names, distinct, option_cases, without_fresh, names_append, names_parts, without_append, look_none, look_some, distinct_left, distinct_right, distinct_apart, length_without, init_last, fresh_without}
+use Rattle.pile.proofs.Entries.{names, distinct, option_cases, without_fresh, names_parts, without_append, look_none, look_some, distinct_left, distinct_right, distinct_apart, length_without, init_last, fresh_without}
 
 -- rows below a row that has room are empty
 abbrev pub Packed : List RowModel → Type 0

@@ -1,10 +1,10 @@
 -- Equal sums serve alike, and only they do as far as there are sound blocks.
-use Rattle.std.proofs.Common.{◌≡◌, ℕ, zero, suc, ◌+◌, ◌<◌, ◌≤◌, min, Bool, true, false, cond, ◌||◌, eqb, ltb, ◌⊎◌, List, [], ◌∷◌, ◌++◌, map, reverse, length, get_or, take, replicate, is_ok, Ok, Err, Result, sym, refl, ap, ◌∙◌, subst, inl, inr, arith, length-take}
+use Rattle.std.proofs.Common.{◌≡◌, ℕ, zero, suc, ◌+◌, ◌<◌, ◌≤◌, min, Bool, true, false, cond, eqb, ltb, List, [], ◌∷◌, ◌++◌, reverse, length, get_or, take, replicate, is_ok, Ok, Err, sym, refl, ap, ◌∙◌, subst, inl, inr, arith}
 use mathlib.Core.List.{reverse-cons}
 use Rattle.std.specs.List.{AllByRecursion as All}
-use Rattle.std.proofs.ByRecursion.{All-take, All-get_or, All-append}
+use Rattle.std.proofs.ByRecursion.{All-take, All-get_or}
 use Rattle.std.proofs.lemmas.List.{map-append, reverse-append, take_all, take_more, take-append-le, length-take-le, length-append}
-use Rattle.std.proofs.lemmas.Bool.{cases_Bool, cases_eq, cases_order, or_parts, or_from, or_left, or_right, or_cases, eqb-true, eqb-false, eq-eqb, ne_eqb, lt-ltb, true≢false, cond-true as cond_yes, cond-false as cond_no}
+use Rattle.std.proofs.lemmas.Bool.{cases_Bool, cases_eq, cases_order, or_from, or_left, or_right, or_cases, eqb-true, eqb-false, eq-eqb, ne_eqb, lt-ltb, true≢false, cond-true as cond_yes, cond-false as cond_no}
 use Rattle.device.specs.Answers.{answer}
 use Rattle.device.specs.Store.{Store, ReadAlike, Lawful, put}
 use Rattle.device.proofs.Outcomes.{admitted as passed}
@@ -12,7 +12,7 @@ use Rattle.tier.specs.Models.{Model}
 use Rattle.pile.specs.declared.faults.PileFault.TheVariants.{Full}
 use Rattle.pile.specs.Bare.{Bare, bare, bare_admitted, bare_stepped, bare_after}
 use Rattle.pile.specs.Laws.{Mountable, trail_of, sound_count, served, ServeAlike, sum_of, Sharp, EqualSums, Paired}
-use Rattle.pile.specs.Piles.{Call, read, write, sync, wrapped}
+use Rattle.pile.specs.Piles.{Call, read, write, sync}
 use Rattle.pile.specs.Reads.{reads_of, passing, again, telling as telling-reads}
 use Rattle.pile.specs.Recency.{has, leave, once, within, count_below}
 use Rattle.pile.proofs.Promised.{counted}

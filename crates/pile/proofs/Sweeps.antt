@@ -1,15 +1,13 @@
 -- A sync saves every unsaved entry, moves none, and leaves the stored blocks as they are wanted.
-use Rattle.std.proofs.Common.{◌≡◌, ℕ, ◌+◌, ◌<◌, ◌≤◌, Bool, true, false, cond, eqb, ◌⊎◌, List, [], ◌∷◌, ◌++◌, map, length, Some, None, Ok, Option, sym, refl, ap, ◌∙◌, subst, inl, inr, arith}
+use Rattle.std.proofs.Common.{◌≡◌, ℕ, true, false, eqb, List, [], ◌∷◌, ◌++◌, map, length, Some, None, Option, sym, refl, ap, ◌∙◌, subst, inl, inr, arith}
 use lib.ListN.{length-map}
 use Rattle.std.specs.Option.{option_map}
 use Rattle.std.proofs.lemmas.List.{map-append}
-use Rattle.std.proofs.lemmas.Bool.{cases_Bool, eqb-true, eqb-false, eq-eqb, ne_eqb, true≢false, cond-true as cond_yes, cond-false as cond_no}
+use Rattle.std.proofs.lemmas.Bool.{cases_Bool, eqb-true, eqb-false, eq-eqb, ne_eqb, cond-true as cond_yes, cond-false as cond_no}
 use Rattle.device.specs.Answers.{answer, checked}
 use Rattle.device.specs.Store.{Store, put}
-use Rattle.row.specs.declared.frame.Mark.{Mark}
-use Rattle.row.specs.declared.frame.Mark.TheVariants.{Saved, Unsaved}
 use Rattle.row.specs.Entries.{Entry, is_saved, find_entry as look, RowModel}
-use Rattle.tier.specs.Demotions.{Outcome, over, raised}
+use Rattle.tier.specs.Demotions.{Outcome, raised}
 use Rattle.tier.specs.Syncs.{Swept, saved_copy, before, saved_or_stop, swept, resumed, synced}
 use Rattle.tier.proofs.Sweeping.{saved_same}
 use Rattle.pile.specs.Recency.{flat, numbers}

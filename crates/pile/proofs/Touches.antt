@@ -1,23 +1,21 @@
 -- One touch keeps what holds from mounting on.
-use Rattle.std.proofs.Common.{◌≡◌, ℕ, zero, suc, ◌+◌, ◌-◌, ◌<◌, ◌≤◌, min, Bool, true, false, cond, eqb, ltb, ◌⊎◌, List, [], ◌∷◌, ◌++◌, map, length, take, drop, Some, None, Ok, Option, sym, refl, ap, ◌∙◌, subst, inl, inr, arith, length-append, length-drop, length-take}
+use Rattle.std.proofs.Common.{◌≡◌, ℕ, zero, suc, ◌+◌, ◌<◌, ◌≤◌, true, false, cond, eqb, List, [], ◌∷◌, ◌++◌, length, take, drop, Some, None, Ok, Option, sym, refl, ap, ◌∙◌, subst, inl, inr, arith, length-drop}
 use lib.ListN.{length-map}
-use Rattle.std.specs.List.{AllByRecursion as All}
-use Rattle.std.proofs.lemmas.List.{take_all, take-take, take-map, take-append-drop, append-nil, nil_from_length}
-use Rattle.std.proofs.ByRecursion.{All-take, All-drop, All-append}
-use Rattle.std.proofs.lemmas.Bool.{cases_Bool, or_left, or_right, cond-false as cond_no, cond-true as cond_yes}
+use Rattle.std.proofs.lemmas.List.{take_all, take-take, take-map, take-append-drop, append-nil}
+use Rattle.std.proofs.ByRecursion.{All-take, All-drop}
+use Rattle.std.proofs.lemmas.Bool.{cases_Bool}
 use Rattle.device.specs.Answers.{answer}
 use Rattle.device.specs.Store.{Store}
 use Rattle.row.specs.Entries.{Entry, is_saved, find_entry as look, without, RowModel}
-use Rattle.tier.specs.Demotions.{Outcome, settled}
-use Rattle.tier.specs.Lifts.{Found, found, deeper, or_below}
+use Rattle.tier.specs.Lifts.{Found, found, or_below}
 use Rattle.tier.specs.Models.{Model}
 use Rattle.tier.proofs.Intake.{length_less}
 use Rattle.pile.specs.Bare.{Bare}
 use Rattle.pile.specs.Piles.{Pile, touches, counted, moved, touched}
 use Rattle.pile.specs.Recency.{has, leave, once, within, flat, numbers, room, total}
-use Rattle.pile.proofs.Agrees.{fits, Agree, Ready, ready_without, agree_front, agree_fall, settled_taken, settled_size, settled_sound}
-use Rattle.pile.proofs.Entries.{names, distinct, option_cases, look_none, look_some, names_left, names_append, names_without, distinct_cons, distinct_without}
-use Rattle.pile.proofs.Hits.{hit, hits_count, length_hit, names_right}
+use Rattle.pile.proofs.Agrees.{Agree, Ready, ready_without, agree_front, agree_fall, settled_taken, settled_size, settled_sound}
+use Rattle.pile.proofs.Entries.{names, distinct, option_cases, look_some, names_without, distinct_cons, distinct_without}
+use Rattle.pile.proofs.Hits.{hit, hits_count, length_hit}
 use Rattle.pile.proofs.Recents.{numbers_without, has_numbers, distinct_numbers, nodup, nodup_once, nodup_take, recent_more, flat_take, same_room, same_room_all}
 use Rattle.pile.proofs.Sweeps.{answer_same, ready_same}
 use Rattle.pile.proofs.Settling.{Packed, caps, fall_store, fall_drop, packed_fits, Settled, settle}

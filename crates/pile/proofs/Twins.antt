@@ -1,5 +1,5 @@
 -- Bare devices that no read can tell apart answer alike.
-use Rattle.std.proofs.Common.{◌≡◌, ℕ, ◌<◌, Bool, true, false, cond, eqb, ltb, ◌⊎◌, List, [], ◌∷◌, length, is_ok, Ok, Err, Result, sym, refl, ap, ◌∙◌, subst, inl, inr}
+use Rattle.std.proofs.Common.{◌≡◌, ℕ, true, false, cond, eqb, ltb, List, [], ◌∷◌, length, is_ok, Ok, Err, sym, refl, ap, ◌∙◌, subst, inl, inr}
 use Rattle.std.proofs.lemmas.Bool.{cases_Bool, cond-true as cond_yes, cond-false as cond_no}
 use Rattle.device.specs.Answers.{answer, checked}
 use Rattle.device.specs.Store.{Store, Lawful, Same, ReadAlike, put}
@@ -8,7 +8,7 @@ use Rattle.tier.specs.Models.{Model}
 use Rattle.pile.specs.declared.faults.PileFault.TheVariants.{Full}
 use Rattle.pile.specs.Bare.{Bare, bare, bare_admitted, bare_answered, bare_stepped, bare_after, bare_answers}
 use Rattle.pile.specs.Laws.{Mountable, Alike, trail_of}
-use Rattle.pile.specs.Piles.{Call, read, write, sync, wrapped, Answer}
+use Rattle.pile.specs.Piles.{Call, read, write, sync, wrapped}
 use Rattle.pile.proofs.Promised.{transparent}
 use Rattle.pile.proofs.Runs.{wrapped_ok}
 

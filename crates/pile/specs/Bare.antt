@@ -1,5 +1,5 @@
 -- The bare device: each accepted write goes straight to the stored blocks.
-use Rattle.std.specs.Prelude.{ℕ, Bool, cond, List, [], ◌∷◌, length, is_ok, Ok, Err, Result, nat_lt}
+use Rattle.std.specs.Prelude.{ℕ, cond, List, [], ◌∷◌, length, is_ok, Ok, Err, Result, nat_lt}
 use Rattle.device.specs.Answers.{answer}
 use Rattle.device.specs.Store.{Store, put}
 use Rattle.pile.specs.declared.faults.PileFault.{PileFault}

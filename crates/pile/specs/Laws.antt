@@ -1,10 +1,9 @@
 -- What holds from mounting on, over every list of calls.
-use Rattle.std.specs.Prelude.{◌≡◌, ℕ, ◌+◌, ◌<◌, ◌≤◌, min, List, [], ◌∷◌, ◌++◌, length, take}
+use Rattle.std.specs.Prelude.{◌≡◌, ℕ, ◌<◌, min, List, [], ◌∷◌, ◌++◌, length, take}
 use Rattle.device.specs.Store.{Store, Same}
 use Rattle.tier.specs.Models.{Model, LawfulModel}
-use Rattle.row.specs.Entries.{RowModel}
 use Rattle.pile.specs.Bare.{bare, bare_after, bare_answers}
-use Rattle.pile.specs.Piles.{Pile, Call, sync, mounted, after, answers, touches}
+use Rattle.pile.specs.Piles.{Call, sync, mounted, after, answers, touches}
 use Rattle.pile.specs.Recency.{once, within, flat, numbers, room, total, count_below}
 
 -- a tier that can be mounted

@@ -1,5 +1,5 @@
 -- A pile: a mounted tier with its tallies, and what each call answers and leaves.
-use Rattle.std.specs.Prelude.{ℕ, zero, suc, ◌+◌, Bool, cond, List, [], ◌∷◌, ◌++◌, length, replicate, is_ok, Some, None, Ok, Err, Option, Result, nat_lt}
+use Rattle.std.specs.Prelude.{ℕ, zero, suc, ◌+◌, cond, List, [], ◌∷◌, length, replicate, is_ok, Some, None, Ok, Err, Option, Result, nat_lt}
 use Rattle.device.specs.declared.fault.DeviceFault.{DeviceFault}
 use Rattle.device.specs.Answers.{answer}
 use Rattle.row.specs.declared.frame.Mark.TheVariants.{Saved, Unsaved}

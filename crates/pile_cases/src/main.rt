@@ -1,7 +1,6 @@
 // Runs piles and comparisons at their edges and prints what they answer.
 #![tactic(auto)]
 
-
 mod compares;
 mod mounts;
 mod plays;

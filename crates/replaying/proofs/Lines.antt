@@ -1,5 +1,5 @@
 -- Taking the lines of a trace one by one gives its calls in their order.
-use Rattle.std.proofs.Common.{◌≡◌, ℕ, ◌+◌, ◌<◌, ◌≤◌, Bool, true, false, cond, ◌⊎◌, List, [], ◌∷◌, length, get_or, is_some, Some, None, Option, sym, refl, ap, ◌∙◌, subst, inl, inr, arith}
+use Rattle.std.proofs.Common.{◌≡◌, ℕ, ◌+◌, ◌<◌, ◌≤◌, Bool, true, false, cond, List, [], ◌∷◌, length, get_or, is_some, Some, None, Option, sym, refl, ap, ◌∙◌, subst, inl, inr, arith}
 use Rattle.formats.specs.Traces.{Said, said, lines, lawful_line, first_line}
 use Rattle.formats.specs.TraceLaws.{Taking}
 use Rattle.formats.proofs.Judged.{judged_more}

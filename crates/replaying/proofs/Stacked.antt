@@ -1,5 +1,5 @@
 -- Levels over a floor: they can be mounted, and after a sync the device holds what it would hold without them.
-use Rattle.std.proofs.Common.{◌≡◌, ℕ, zero, suc, ◌+◌, ◌<◌, ◌≤◌, false, cond, ltb, List, [], ◌∷◌, ◌++◌, map, length, get_or, drop, Ok, Err, sym, refl, ap, ◌∙◌, subst, append-nil, add-zero, arith}
+use Rattle.std.proofs.Common.{◌≡◌, ℕ, zero, suc, ◌+◌, ◌<◌, ◌≤◌, false, List, [], ◌∷◌, map, length, get_or, drop, Ok, sym, refl, ap, ◌∙◌, subst, append-nil, arith}
 use Rattle.std.specs.List.{AllByRecursion as All}
 use Rattle.std.proofs.lemmas.List.{drop_more, drop_all}
 use Rattle.std.proofs.lemmas.Bool.{le-ltb}
@@ -7,7 +7,7 @@ use Rattle.device.specs.Store.{Store, Lawful}
 use Rattle.pile.specs.Bare.{bare, bare_after}
 use Rattle.pile.specs.Laws.{Mountable}
 use Rattle.pile.specs.Mounts.{has_entry, mount_answer}
-use Rattle.pile.specs.Piles.{Pile, Call, sync, mounted, stepped, after}
+use Rattle.pile.specs.Piles.{Call, sync, mounted}
 use Rattle.pile.specs.Recency.{flat}
 use Rattle.pile.proofs.Promised.{after_last, stored}
 use Rattle.tier.specs.Floors.{floor_model}

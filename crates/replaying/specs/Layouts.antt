@@ -1,5 +1,5 @@
 -- The device and the tier that a sheet lists over the bytes of its images.
-use Rattle.std.specs.Prelude.{ℕ, List, [], ◌∷◌, map}
+use Rattle.std.specs.Prelude.{ℕ, List, [], map}
 use Rattle.device.specs.Bytes.{of_bytes}
 use Rattle.device.specs.Store.{Store}
 use Rattle.formats.specs.declared.sheet.Images.{Images}

@@ -1,5 +1,5 @@
 -- What a restore leaves in the bytes of an image, from what it leaves in its blocks.
-use Rattle.std.proofs.Common.{◌≡◌, ℕ, ◌*◌, ◌≤◌, true, false, cond, ltb, leb, List, ◌++◌, length, take, drop, is_ok, sym, refl, ap, ◌∙◌, inl, inr, arith}
+use Rattle.std.proofs.Common.{◌≡◌, ℕ, ◌*◌, ◌≤◌, true, leb, List, ◌++◌, length, drop, is_ok, sym, ap, ◌∙◌, inl, inr, arith}
 use Rattle.std.proofs.lemmas.List.{length-take-le}
 use Rattle.std.proofs.lemmas.Bool.{cases_Bool, leb-true, true≢false}
 use Rattle.device.specs.Bytes.{of_bytes, block_count, block_bytes}

@@ -1,5 +1,5 @@
 -- Restoring under a defect list: how the answers of listing and restoring make the whole.
-use Rattle.std.proofs.Common.{◌≡◌, ℕ, true, false, cond, List, [], is_ok, Ok, Err, Result, sym, refl, ap, ◌∙◌}
+use Rattle.std.proofs.Common.{◌≡◌, ℕ, false, cond, List, [], is_ok, Ok, Err, Result, sym, refl, ap, ◌∙◌}
 use Rattle.device.specs.Loans.{Loans, listed}
 use Rattle.device.specs.Store.{Store}
 use Rattle.layers.specs.declared.defects.DefectFault.{DefectFault}

@@ -1,5 +1,5 @@
 -- Restoring from bytes to bytes.
-use Rattle.std.specs.Prelude.{ℕ, ◌*◌, cond, List, ◌++◌, length, drop, is_ok, Result}
+use Rattle.std.specs.Prelude.{ℕ, cond, List, ◌++◌, length, drop, is_ok, Result}
 use Rattle.device.specs.Bytes.{of_bytes, block_bytes}
 use Rattle.layers.specs.declared.restoring.RestoreFault.{RestoreFault}
 use Rattle.layers.specs.Restores.{restore_answer}

@@ -1,11 +1,9 @@
 -- A stripe of two images under a defect list, made over plain bytes.
-use Rattle.std.specs.Prelude.{◌≡◌, ℕ, ◌+◌, ◌*◌, ◌/◌, ◌%◌, Bool, true, false, cond, List, [], ◌∷◌, ◌++◌, is_ok, Ok, Err, Result, nat_lt}
+use Rattle.std.specs.Prelude.{◌≡◌, ℕ, ◌+◌, ◌*◌, ◌/◌, ◌%◌, Bool, true, cond, List, [], ◌∷◌, ◌++◌, is_ok, Ok, Err, Result, nat_lt}
 use Rattle.device.specs.Bytes.{of_bytes}
 use Rattle.device.specs.Store.{Store}
 use Rattle.layers.specs.declared.defects.DefectFault.{DefectFault}
 use Rattle.layers.specs.declared.defects.DefectFault.TheVariants.{Memory}
-use Rattle.layers.specs.declared.home.UnitFault.{UnitFault}
-use Rattle.layers.specs.declared.restoring.RestoreFault.{RestoreFault}
 use Rattle.restoring.specs.declared.stack.StackFault.{StackFault}
 use Rattle.restoring.specs.declared.stack.StackFault.TheVariants.{Unit as OfUnit, Defects as OfDefects, Restore as OfRestore}
 use Rattle.layers.specs.Defects as defects

@@ -2,7 +2,7 @@
 use Rattle.std.proofs.Common.{◌≡◌, ℕ, zero, suc, ◌+◌, ◌<◌, ◌≤◌, true, false, cond, not, eqb, List, [], ◌∷◌, length, sym, refl, ap, ◌∙◌, inl, inr, arith}
 use Rattle.std.specs.List.{AllByRecursion as All}
 use Rattle.std.proofs.lemmas.Bool.{cases_Bool, and_parts, and_from, or_left, or_right, eqb-true, eqb-false, eq-eqb, ne_eqb, not-true, not_from_false, true≢false, both_ways}
-use Rattle.rings.specs.Slots.{member, without, distinct, first, end, after}
+use Rattle.rings.specs.Slots.{member, without, distinct, end, after}
 
 pub member_without : (y x : ℕ) (xs : List ℕ) → member y (without x xs) ≡ cond (eqb y x) false (member y xs)
 member_without y x [] = elim (cases_Bool (eqb y x)) [ inl h ↦ rw h | inr h ↦ rw h ]

@@ -1,7 +1,7 @@
 -- The buckets of an index: sixteen rings, and the one that each number belongs to.
 use Rattle.std.specs.Prelude.{◌≡◌, ℕ, ◌*◌, ◌/◌, ◌%◌, ◌^◌, ◌<◌, true, cond, List, [], ◌∷◌, Some, None, Option, ◌==◌, slice_index}
 use Rattle.rings.specs.declared.rings.Rings.{Rings}
-use Rattle.rings.specs.Slots.{member, first, after}
+use Rattle.rings.specs.Slots.{member, after}
 use Rattle.rings.specs.Models.{ring}
 
 -- the top four bits of a product of 32 bits

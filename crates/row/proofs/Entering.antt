@@ -1,5 +1,5 @@
 -- The entries of a shelf and its frames, after a slot is emptied, filled and saved, and around a slot.
-use Rattle.std.proofs.Common.{◌≡◌, ℕ, ◌+◌, ◌-◌, ◌<◌, ◌≤◌, true, false, cond, eqb, List, [], ◌∷◌, ◌++◌, map, length, get_or, set, is_some, Some, None, Option, unwrap_or, sym, refl, ap, ◌∙◌, inl, inr, arith, MatchOption}
+use Rattle.std.proofs.Common.{◌≡◌, ℕ, ◌<◌, ◌≤◌, true, false, cond, eqb, List, [], ◌∷◌, ◌++◌, map, length, get_or, set, is_some, Some, None, Option, unwrap_or, sym, refl, ap, ◌∙◌, inl, inr, arith, MatchOption}
 use Rattle.std.proofs.lemmas.List.{length-map, map-append, get_or-set_same, get_or-set_other}
 use Rattle.std.proofs.lemmas.Bool.{cases_Bool, eqb-true, eqb-false, eq-eqb, ne_eqb, true≢false, both_ways}
 use Rattle.rings.specs.Slots as slots
@@ -7,7 +7,6 @@ use Rattle.rings.specs.Slots.{member, distinct, first, last, after}
 use Rattle.rings.proofs.Lists.{length_without, member_without, member_end, member_after, after_first}
 use Rattle.rings.proofs.Filing.{ring_distinct, ring_low}
 use Rattle.row.specs.declared.frame.Frame.{Frame}
-use Rattle.row.specs.declared.frame.Mark.{Mark}
 use Rattle.row.specs.declared.shelf.Shelf.{Shelf}
 use Rattle.row.specs.Frames.{blank, saved_frame}
 use Rattle.row.specs.Orders.{order, key}

@@ -1,5 +1,5 @@
 -- Entries read off a list of slots, under a removal, a search and a cut.
-use Rattle.std.proofs.Common.{◌≡◌, ℕ, ◌+◌, ◌-◌, true, false, not, eqb, List, [], ◌∷◌, ◌++◌, map, Some, None, sym, refl, ap, ◌∙◌, inl, inr, arith}
+use Rattle.std.proofs.Common.{◌≡◌, ℕ, true, false, eqb, List, [], ◌∷◌, ◌++◌, map, Some, None, sym, refl, ap, ◌∙◌, inl, inr, arith}
 use Rattle.std.proofs.lemmas.Bool.{cases_Bool, or_left, or_right, or_from, eqb-true, eqb-false, eq-eqb, ne_eqb, true≢false, both_ways}
 use Rattle.std.specs.List.{AllByRecursion as All}
 use Rattle.rings.specs.Slots as slots

@@ -1,16 +1,13 @@
 -- A level takes an entry in and hands down what has to leave; a block that its row does not have is lifted from below.
-use Rattle.std.proofs.Common.{◌≡◌, ℕ, suc, ◌+◌, ◌<◌, ◌≤◌, min, Bool, true, false, cond, eqb, leb, ◌⊎◌, List, [], ◌∷◌, ◌++◌, length, Some, None, Ok, Err, Option, Result, sym, refl, ap, ◌∙◌, inl, inr, arith}
+use Rattle.std.proofs.Common.{◌≡◌, ℕ, suc, ◌+◌, ◌<◌, ◌≤◌, eqb, leb, List, [], ◌∷◌, length, Some, None, Ok, Err, Option, sym, refl, ap, ◌∙◌, inl, inr, arith}
 use Rattle.std.specs.Option.{option_map}
-use Rattle.std.proofs.lemmas.Bool.{cases_Bool, cases_eq, le-leb, lt-leb, eq-eqb, ne_eqb, eqb-true, eqb-false, cond-true as cond_yes, cond-false as cond_no}
-use Rattle.device.specs.Store.{Store}
-use Rattle.rings.specs.Slots.{last, end}
+use Rattle.std.proofs.lemmas.Bool.{cases_Bool, le-leb, lt-leb, eq-eqb, eqb-true, eqb-false, cond-true as cond_yes, cond-false as cond_no}
+use Rattle.rings.specs.Slots.{last}
 use Rattle.row.specs.declared.frame.Mark.{Mark}
 use Rattle.row.specs.Entries.{Entry, RowModel, Lawful, find_entry, without, holding, front, start, full, leaving, left, bytes_or as contents}
 use Rattle.tier.specs.declared.faults.DemoteFault.TheVariants.{Length as OfLength, Dropped as OfDropped}
 use Rattle.tier.specs.declared.faults.Dropped.{Dropped}
-use Rattle.tier.specs.declared.faults.Lifted.{Lifted}
-use Rattle.tier.specs.declared.faults.LiftFault.{LiftFault}
-use Rattle.tier.specs.Demotions.{Outcome, in_front, kept, fallen, over, passed, demoted, raised, told_drop}
+use Rattle.tier.specs.Demotions.{kept, fallen, over, passed, demoted, raised}
 use Rattle.tier.specs.Levels.{level_model, lost_in}
 use Rattle.tier.specs.Lifts.{Found, found, deeper, or_below, label_of, lifted_deeper, deeper_answer, lift_answer, lift_buffer, lift_after, lose_or_below, lifted, bytes_or}
 use Rattle.tier.specs.Models.{Model}

@@ -1,10 +1,10 @@
 -- How far a sync over the slots of a row has come.
-use Rattle.std.proofs.Common.{◌≡◌, ℕ, ◌<◌, cond, List, [], ◌∷◌, ◌++◌, length, Some, None, Ok, Err, Option, sym, refl, ap, ◌∙◌, subst, append_assoc, arith, MatchOption}
+use Rattle.std.proofs.Common.{◌≡◌, ℕ, ◌<◌, List, [], ◌∷◌, ◌++◌, length, Some, None, Ok, Err, Option, sym, ap, ◌∙◌, append_assoc, arith}
 use Rattle.std.proofs.lemmas.List.{append-nil}
 use Rattle.device.specs.Store.{Store}
 use Rattle.row.specs.declared.row.Row.{Row}
-use Rattle.row.specs.Entries.{Entry, RowModel, holding}
-use Rattle.row.specs.Rows.{model, entries, Stands, held, above, below, coming, passed}
+use Rattle.row.specs.Entries.{RowModel, holding}
+use Rattle.row.specs.Rows.{model, entries, held, above, below, coming, passed}
 use Rattle.tier.specs.declared.faults.Dropped.{Dropped}
 use Rattle.tier.specs.Demotions.{told_drop}
 use Rattle.tier.specs.Syncs.{Swept, saved_copy, before, swept, save_answer, save_model}

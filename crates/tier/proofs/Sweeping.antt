@@ -1,5 +1,5 @@
 -- One row synced from its front, one entry after another.
-use Rattle.std.proofs.Common.{◌≡◌, ℕ, Bool, true, false, cond, ◌⊎◌, List, [], ◌∷◌, ◌++◌, length, Some, None, Ok, Err, Option, Result, sym, refl, ap, ◌∙◌, inl, inr, arith}
+use Rattle.std.proofs.Common.{◌≡◌, ℕ, true, false, List, ◌∷◌, ◌++◌, length, Some, Ok, Err, Result, sym, refl, ap, ◌∙◌, inl, inr, arith}
 use Rattle.std.proofs.lemmas.Bool.{cases_Bool, true≢false, cond-true as cond_yes, cond-false as cond_no}
 use Rattle.device.specs.declared.fault.DeviceFault.{DeviceFault}
 use Rattle.device.specs.Answers.{answer, written}
@@ -11,7 +11,7 @@ use Rattle.row.specs.Entries.{Entry, RowModel, is_saved}
 use Rattle.tier.specs.Demotions.{told_drop}
 use Rattle.tier.specs.declared.faults.Dropped.{Dropped}
 use Rattle.tier.specs.Models.{Model}
-use Rattle.tier.specs.Syncs.{Swept, saved_copy, before, saved_or_stop, swept, saved_answer, save_answer, save_entry, save_model}
+use Rattle.tier.specs.Syncs.{Swept, saved_copy, before, saved_or_stop, swept, saved_answer, save_answer, save_model}
 
 saved_mark : (k : Mark) → is_saved k ≡ true → k ≡ Saved
 saved_mark Saved h = refl

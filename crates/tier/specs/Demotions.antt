@@ -1,5 +1,5 @@
 -- Demoting an entry into a tier.
-use Rattle.std.specs.Prelude.{ℕ, ◌+◌, Bool, true, false, cond, List, [], ◌∷◌, length, is_ok, Some, None, Ok, Err, Option, Result, nat_le}
+use Rattle.std.specs.Prelude.{ℕ, ◌+◌, cond, List, [], ◌∷◌, length, Some, None, Ok, Err, Option, Result, nat_le}
 use Rattle.std.specs.Option.{option_map}
 use Rattle.device.specs.declared.fault.DeviceFault.{DeviceFault}
 use Rattle.device.specs.Answers.{answer, written}
@@ -7,7 +7,6 @@ use Rattle.device.specs.Store.{Store}
 use Rattle.rings.specs.Slots.{last}
 use Rattle.row.specs.Entries.{Entry, RowModel, is_saved, without, front}
 use Rattle.tier.specs.declared.faults.Dropped.{Dropped}
-use Rattle.tier.specs.Models.{Model}
 use Rattle.tier.specs.Questions.{told}
 
 -- what a demotion leaves: the rows, the stored blocks, and the entry that the stored blocks refused, if there is one

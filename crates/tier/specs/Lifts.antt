@@ -1,5 +1,5 @@
 -- Lifting a block: the first row from the top that names it loses that entry.
-use Rattle.std.specs.Prelude.{ℕ, ◌+◌, Bool, cond, List, [], ◌∷◌, length, Some, None, Ok, Err, Option, Result, ◌==◌}
+use Rattle.std.specs.Prelude.{ℕ, ◌+◌, cond, List, [], ◌∷◌, length, Some, None, Ok, Err, Option, Result, ◌==◌}
 use Rattle.std.specs.Option.{option_map}
 use Rattle.row.specs.Entries.{Entry, find_entry as look, without, RowModel}
 use Rattle.tier.specs.declared.faults.LiftFault.{LiftFault}

@@ -1,5 +1,5 @@
 -- What a tier means: stored blocks, and rows of entries over them, top first.
-use Rattle.std.specs.Prelude.{◌≡◌, ℕ, ◌≤◌, true, List, [], ◌∷◌, length}
+use Rattle.std.specs.Prelude.{◌≡◌, ◌≤◌, true, List, length}
 use Rattle.std.specs.List.{AllByRecursion}
 use Rattle.device.specs.Store.{Store, Lawful}
 use Rattle.rings.specs.Slots.{distinct}

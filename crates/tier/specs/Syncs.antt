@@ -1,5 +1,5 @@
 -- Syncing a tier: rows from the top, each from its front, up to the first save that is refused.
-use Rattle.std.specs.Prelude.{ℕ, Bool, cond, List, [], ◌∷◌, length, is_ok, Some, None, Ok, Err, Option, Result}
+use Rattle.std.specs.Prelude.{ℕ, cond, List, [], ◌∷◌, length, is_ok, Some, None, Ok, Err, Option, Result}
 use Rattle.device.specs.declared.fault.DeviceFault.{DeviceFault}
 use Rattle.device.specs.Answers.{answer, written}
 use Rattle.device.specs.Store.{Store, put}

@@ -1,7 +1,6 @@
 -- The calls of a tier that change it.
-use Rattle.std.specs.Prelude.{ℕ, cond, List, length, Result, ◌==◌}
-use Rattle.device.specs.declared.fault.DeviceFault.{DeviceFault}
-use Rattle.device.specs.Answers.{answer, written}
+use Rattle.std.specs.Prelude.{ℕ, cond, List, length, ◌==◌}
+use Rattle.device.specs.Answers.{written}
 use Rattle.row.specs.Entries.{Entry}
 use Rattle.tier.specs.declared.victim.Victim.{Victim}
 use Rattle.tier.specs.Models.{Model}

@@ -1,7 +1,6 @@
 // Runs hand-built levels at their edges and prints what they answer.
 #![tactic(auto)]
 
-
 mod levels;
 mod refusals;
 

@@ -1,7 +1,5 @@
-use Rattle.std.proofs.Common.{◌≡◌, true, Ok, sym, rules}
+use Rattle.std.proofs.Common.{◌≡◌, true, sym, rules}
 use Rattle.std.proofs.lemmas.Slice.Eq.{slice_eq-Decides}
-use Rattle.device.specs.Answers.{answer}
-use Rattle.device.proofs.Outcomes.{filled_ok}
 use Rattle.certificate.proofs.Sameness.{both_read}
 use Rattle.certificate.proofs.devices.same_block.Goals as goal
 use Rattle.std.proofs.lemmas.Bool.Decides.{Decides-eqb}

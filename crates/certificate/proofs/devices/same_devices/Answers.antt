@@ -1,6 +1,5 @@
-use Rattle.std.proofs.Common.{◌≡◌, sym, ◌∙◌, arith, rules}
+use Rattle.std.proofs.Common.{rules}
 use Rattle.device.proofs.Below.{all_more}
-use Rattle.certificate.specs.Devices.{same_block}
 use Rattle.certificate.proofs.Sameness.{told_apart}
 use Rattle.certificate.proofs.devices.same_devices.Goals as goal
 

@@ -1,4 +1,4 @@
-use Rattle.std.proofs.Common.{◌≡◌, ◌+◌, ◌-◌, ◌<◌, [], ◌∷◌, ◌++◌, take, vec_items, vec_len, sym, ap, ◌∙◌, arith}
+use Rattle.std.proofs.Common.{◌≡◌, ◌-◌, ◌<◌, [], ◌∷◌, ◌++◌, take, vec_items, vec_len, sym, ap, ◌∙◌, arith}
 use Rattle.pile.specs.Reads.{passing}
 use Rattle.certificate.proofs.Passing.{skipped, taken, one_moved, none_left, none_wanted}
 use Rattle.certificate.proofs.reads.greatest_sound.Goals as goal

@@ -1,4 +1,4 @@
-use Rattle.std.proofs.Common.{◌≡◌, ◌+◌, ◌*◌, ◌≤◌, min, take, Some, None, sym, ap, ◌∙◌, mul-add, arith}
+use Rattle.std.proofs.Common.{◌≡◌, ◌+◌, ◌≤◌, take, Some, sym, ap, ◌∙◌, arith}
 use Rattle.tier.specs.Questions.{capacity_of}
 use Rattle.pile.specs.Recency.{room}
 use Rattle.certificate.proofs.Counting.{room_some, room_none, bounded, room_all}

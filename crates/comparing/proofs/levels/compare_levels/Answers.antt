@@ -1,4 +1,4 @@
-use Rattle.std.proofs.Common.{◌≡◌, ℕ, length, ap, arith, ltb-false, ltb-true}
+use Rattle.std.proofs.Common.{◌≡◌, length, ap, arith, ltb-false, ltb-true}
 use Rattle.replaying.specs.Outcomes.{stacked}
 use Rattle.replaying.proofs.Stacked.{all_places}
 use Rattle.comparing.proofs.Replaced.{first_is}

@@ -1,8 +1,8 @@
-use Rattle.std.proofs.Common.{◌≡◌, true, eqb, sym, ap, ◌∙◌}
+use Rattle.std.proofs.Common.{◌≡◌, true, sym, ap, ◌∙◌}
 use Rattle.std.proofs.lemmas.Bool.{eq-eqb}
 use Rattle.device.specs.Bytes.{of_bytes}
 use Rattle.device.specs.Store.{Store}
-use Rattle.formats.specs.declared.sheet.Images.TheVariants.{Single, Striped}
+use Rattle.formats.specs.declared.sheet.Images.TheVariants.{Striped}
 use Rattle.formats.specs.Seen.{listed}
 use Rattle.layers.specs.Stripes.{striped}
 use Rattle.replaying.specs.Layouts.{images_store}

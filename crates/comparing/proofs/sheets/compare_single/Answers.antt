@@ -1,4 +1,4 @@
-use Rattle.std.proofs.Common.{◌≡◌, vec_items, ap}
+use Rattle.std.proofs.Common.{vec_items, ap}
 use Rattle.device.specs.Bytes.{of_bytes}
 use Rattle.comparing.proofs.Replaced.{devices_are}
 use Rattle.comparing.proofs.sheets.compare_single.Goals as goal

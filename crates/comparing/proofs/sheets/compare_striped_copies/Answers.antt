@@ -1,4 +1,4 @@
-use Rattle.std.proofs.Common.{◌≡◌, ℕ, List, vec_items, ◌∙◌}
+use Rattle.std.proofs.Common.{◌≡◌, vec_items, ◌∙◌}
 use Rattle.device.specs.Bytes.{of_bytes}
 use Rattle.layers.specs.Stripes.{striped}
 use Rattle.comparing.proofs.Replaced.{devices_are}

@@ -1,4 +1,4 @@
-use Rattle.std.proofs.Common.{◌≡◌, ◌-◌, ◌*◌, length, take, drop, ap, ◌∙◌, arith}
+use Rattle.std.proofs.Common.{◌*◌, length, ap, ◌∙◌, arith}
 use Rattle.device.specs.Whole.{fits, of_bytes_lawful}
 use Rattle.device.proofs.OneBlock.{part_of_rest}
 use Rattle.device.proofs.blocks.block_of.Goals as goal

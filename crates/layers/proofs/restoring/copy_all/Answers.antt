@@ -1,4 +1,4 @@
-use Rattle.std.proofs.Common.{◌≡◌, length, sym, refl, ap, ◌∙◌, arith}
+use Rattle.std.proofs.Common.{length, sym, refl, ◌∙◌, arith}
 use Rattle.layers.proofs.Copied.{copy_more, copied_none, never_refused}
 use Rattle.layers.proofs.restoring.copy_all.Goals as goal
 

@@ -1,4 +1,4 @@
-use Rattle.std.proofs.Common.{◌≡◌, suc, ◌+◌, is_some, sym, ap, ◌∙◌, arith}
+use Rattle.std.proofs.Common.{is_some, sym, ap, ◌∙◌, arith}
 use Rattle.tier.specs.Questions.{entry_of}
 use Rattle.pile.proofs.Mounting.{entry_there, none_there}
 use Rattle.pile.proofs.pile.has_entry.Goals as goal

@@ -1,4 +1,4 @@
-use Rattle.std.proofs.Common.{◌≡◌, ℕ, List, length, ap, ◌∙◌, arith, ltb-false, ltb-true}
+use Rattle.std.proofs.Common.{◌≡◌, length, ap, ◌∙◌, arith, ltb-false, ltb-true}
 use Rattle.pile.specs.Mounts.{mount_answer}
 use Rattle.replaying.specs.Calls.{calls_of}
 use Rattle.replaying.specs.Outcomes.{stacked}

@@ -1,4 +1,4 @@
-use Rattle.std.proofs.Common.{◌≡◌, ◌+◌, true, false, refl, ◌∙◌, arith}
+use Rattle.std.proofs.Common.{◌+◌, true, false, refl, ◌∙◌, arith}
 use Rattle.formats.specs.Shown.{shown}
 use Rattle.pile.specs.Tallies.{pile_of}
 use Rattle.replaying.proofs.Lines.{calls_more, left_all, left_more, left_none, counted_none}

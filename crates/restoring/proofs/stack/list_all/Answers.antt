@@ -1,9 +1,9 @@
-use Rattle.std.proofs.Common.{◌≡◌, true, [], ◌∷◌, ◌++◌, get_or, Err, sym, refl, ap, ◌∙◌}
+use Rattle.std.proofs.Common.{true, [], ◌∷◌, ◌++◌, get_or, Err, sym, refl, ap, ◌∙◌}
 use Rattle.std.proofs.lemmas.List.{take_more, take_all}
 use Rattle.std.proofs.lemmas.Result.{err_from_is_err_and}
 use Rattle.std.proofs.lemmas.Bool.{true≢false}
 use Rattle.layers.specs.Defects.{listing, had_room}
-use Rattle.restoring.proofs.Listing.{Left, left_more, left_refused, left_all}
+use Rattle.restoring.proofs.Listing.{left_more, left_refused, left_all}
 use Rattle.restoring.proofs.stack.list_all.Goals as goal
 
 pub returns-in_err-list : goal.returns-in_err-list

@@ -1,4 +1,4 @@
-use Rattle.std.proofs.Common.{◌≡◌, Ok, Err, vec_items, sym, refl, ap, ◌∙◌}
+use Rattle.std.proofs.Common.{Ok, Err, vec_items, refl, ap, ◌∙◌}
 use Rattle.std.proofs.lemmas.Result.{err_from_is_err_and}
 use Rattle.restoring.proofs.Stacked.{after_list, after_restore, blocks_of, listed_over}
 use Rattle.restoring.proofs.stack.restore_under.Goals as goal

@@ -1,4 +1,4 @@
-use Rattle.std.proofs.Common.{◌≡◌, ◌^◌, ◌<◌, sym, arith}
+use Rattle.std.proofs.Common.{◌^◌, ◌<◌, sym, arith}
 use Rattle.formats.proofs.Placed.{length_digit, length_digits, length_few}
 use Rattle.formats.proofs.report.lengths.+digit_count.Goals as goal
 

@@ -1,4 +1,4 @@
-use Rattle.std.proofs.Common.{◌≡◌, sym, arith}
+use Rattle.std.proofs.Common.{arith}
 use Rattle.formats.proofs.Reported.{length_last}
 use Rattle.formats.proofs.report.lengths.last_length.Goals as goal
 

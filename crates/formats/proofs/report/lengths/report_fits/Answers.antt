@@ -1,4 +1,4 @@
-use Rattle.std.proofs.Common.{◌≡◌, ◌+◌, ◌-◌, ◌<◌, ◌≤◌, leb, length, get_or, drop, sym, ap, ◌∙◌, arith}
+use Rattle.std.proofs.Common.{◌+◌, ◌-◌, ◌<◌, ◌≤◌, leb, length, get_or, drop, sym, ap, ◌∙◌, arith}
 use Rattle.formats.specs.Reports.{level_line, level_lines, last_lines}
 use Rattle.formats.proofs.Reported.{blank, over_last, within_last, over_line, within_line, within_none}
 use Rattle.formats.proofs.report.lengths.report_fits.Goals as goal

@@ -1,4 +1,4 @@
-use Rattle.std.proofs.Common.{◌≡◌, ◌+◌, ◌≤◌, length, drop, sym, refl, ap, ◌∙◌, zero-add, arith}
+use Rattle.std.proofs.Common.{◌+◌, ◌≤◌, length, drop, sym, refl, ap, ◌∙◌, zero-add, arith}
 use Rattle.formats.specs.Reports.{level_lines, placed}
 use Rattle.formats.proofs.Placed.{placed_none}
 use Rattle.formats.proofs.Reported.{blank, left_more, left_none, line_room}

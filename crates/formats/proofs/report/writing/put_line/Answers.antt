@@ -1,4 +1,4 @@
-use Rattle.std.proofs.Common.{ℕ, List, [], ◌∷◌, arith}
+use Rattle.std.proofs.Common.{[], ◌∷◌, arith}
 use Rattle.formats.specs.Reports.{field}
 use Rattle.formats.proofs.Placed.{room_left, room_next, wrote_next}
 use Rattle.formats.proofs.report.writing.put_line.Goals as goal

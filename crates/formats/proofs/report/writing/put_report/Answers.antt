@@ -1,4 +1,4 @@
-use Rattle.std.proofs.Common.{◌≡◌, ℕ, ◌+◌, ◌≤◌, List, ◌++◌, length, sym, ap, ◌∙◌, zero-add, arith}
+use Rattle.std.proofs.Common.{ℕ, ◌+◌, ◌≤◌, List, ◌++◌, length, ◌∙◌, zero-add, arith}
 use Rattle.formats.specs.Reports.{level_lines, last_lines}
 use Rattle.formats.proofs.Placed.{room_left, room_next, wrote_next}
 use Rattle.formats.proofs.report.writing.put_report.Goals as goal

@@ -1,4 +1,4 @@
-use Rattle.std.proofs.Common.{◌≡◌, ℕ, ◌-◌, ◌≤◌, vec_items, vec_len}
+use Rattle.std.proofs.Common.{◌-◌, ◌≤◌, vec_items, vec_len}
 use Rattle.formats.specs.Sheets.{capacity, capacities}
 use Rattle.formats.proofs.Entries.{Left}
 use Rattle.formats.proofs.sheet.reading.read_capacities.Given as goal

@@ -1,7 +1,7 @@
-use Rattle.std.proofs.Common.{◌≡◌, ℕ, suc, ◌+◌, ◌-◌, ◌<◌, [], ◌∷◌, ◌++◌, Err, vec_items, vec_len, sym, ap, ◌∙◌, arith}
+use Rattle.std.proofs.Common.{◌≡◌, suc, ◌+◌, ◌-◌, ◌<◌, Err, vec_items, vec_len, ap, ◌∙◌, arith}
 use Rattle.std.proofs.lemmas.Result.{err_from_is_err_and}
 use Rattle.formats.specs.Sheets.{number_from, rising}
-use Rattle.formats.proofs.Entries.{refused_by, Left, left_refused, left_more}
+use Rattle.formats.proofs.Entries.{refused_by, left_refused, left_more}
 use Rattle.formats.proofs.sheet.reading.read_rising.Goals as goal
 
 pub returns-in_err-number : goal.returns-in_err-number

@@ -1,5 +1,4 @@
-use Rattle.std.proofs.Common.{rules}
-use Rattle.formats.proofs.Cuts.{Passed, passed_none, passed_more, passed_found, passed_all}
+use Rattle.formats.proofs.Cuts.{passed_none, passed_more, passed_found, passed_all}
 use Rattle.formats.proofs.trace.fields.cut.Goals as goal
 
 pub loop-i-init : goal.loop-i-init

@@ -1,5 +1,5 @@
-use Rattle.std.proofs.Common.{◌≡◌, ℕ, ◌+◌, ◌-◌, ◌*◌, ◌<◌, get_or, sym, ap, ◌∙◌, arith, rules}
-use Rattle.formats.proofs.Numbers.{Going, going_more, going_other, going_big, going_all}
+use Rattle.std.proofs.Common.{◌+◌, ◌-◌, ◌*◌, ◌<◌, get_or, sym, arith, rules}
+use Rattle.formats.proofs.Numbers.{going_more, going_other, going_big, going_all}
 use Rattle.formats.proofs.trace.fields.small_number.Goals as goal
 
 pub returns-then-not-is_digit : goal.returns-then-not-is_digit

@@ -1,4 +1,4 @@
-use Rattle.std.proofs.Common.{◌≡◌, ◌+◌, ◌<◌, length, sym, refl, ap, ◌∙◌, arith}
+use Rattle.std.proofs.Common.{◌<◌, length, sym, ap, ◌∙◌, arith}
 use Rattle.formats.specs.Traces.{lines, judged_after}
 use Rattle.formats.specs.Shown.{shown}
 use Rattle.std.proofs.lemmas.Bool.{eqb-true, eqb-false}

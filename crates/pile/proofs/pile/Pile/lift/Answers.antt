@@ -1,10 +1,6 @@
-use Rattle.std.proofs.Common.{◌≡◌, ◌≤◌, min, true, cond, eqb, length, Some, Ok, Err, Option, Result, sym, ap, ◌∙◌, arith, length-take, rules}
+use Rattle.std.proofs.Common.{◌≡◌, ◌≤◌, length, Some, ◌∙◌, arith, length-take, rules}
 use Rattle.std.specs.Option.{option_map}
-use Rattle.tier.specs.declared.faults.Lifted.{Lifted}
-use Rattle.tier.specs.declared.faults.LiftFault.{LiftFault}
-use Rattle.tier.specs.Lifts.{Found, found, label_of, lift_answer, lifted}
-use Rattle.tier.specs.Models.{Model}
-use Rattle.pile.specs.Piles.{Pile, add_at}
+use Rattle.tier.specs.Lifts.{found, label_of, lifted}
 use Rattle.pile.specs.Tallies.{pile_of, hits_of}
 use Rattle.pile.proofs.Lifting.{label_mark, label_counts}
 use Rattle.pile.proofs.pile.Pile.lift.Goals as goal

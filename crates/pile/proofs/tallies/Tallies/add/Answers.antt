@@ -1,4 +1,4 @@
-use Rattle.std.proofs.Common.{◌≡◌, ◌-◌, ◌<◌, ◌≤◌, min, length, sym, refl, arith, length-take}
+use Rattle.std.proofs.Common.{◌-◌, sym, refl, arith, length-take}
 use Rattle.pile.specs.Tallies.{hits_of}
 use Rattle.pile.proofs.Counts.{within_total, raised, none_raised_outside}
 use Rattle.pile.proofs.tallies.Tallies.add.Goals as goal

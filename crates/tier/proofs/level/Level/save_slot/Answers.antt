@@ -3,7 +3,6 @@ use Rattle.device.specs.Answers.{answer, written}
 use Rattle.row.specs.Entries.{holding, is_saved}
 use Rattle.row.specs.Rows.{model, held, above, below}
 use Rattle.row.proofs.Laws.{entries_split}
-use Rattle.tier.specs.Syncs.{save_answer, save_model}
 use Rattle.tier.proofs.Sweeping.{saved_same, saved_skips, saved_model, refused_answer, refused_model}
 use Rattle.tier.proofs.level.Level.save_slot.Goals as goal
 

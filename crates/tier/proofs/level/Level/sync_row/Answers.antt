@@ -1,9 +1,8 @@
-use Rattle.std.proofs.Common.{◌≡◌, ℕ, ◌<◌, ◌∷◌, ◌++◌, length, Some, None, Err, Option, sym, refl, ap, ◌∙◌, subst}
+use Rattle.std.proofs.Common.{◌≡◌, ◌<◌, ◌∷◌, length, Err, sym, refl, ap, ◌∙◌, subst}
 use Rattle.std.proofs.lemmas.Result.{err_from_is_err_and}
-use Rattle.row.specs.Entries.{holding}
-use Rattle.row.specs.Rows.{model, entries, coming, passed, held, above, below}
+use Rattle.row.specs.Rows.{entries, coming, passed, held, above, below}
 use Rattle.tier.specs.Refusals.{sync_answer}
-use Rattle.tier.specs.Syncs.{Swept, swept}
+use Rattle.tier.specs.Syncs.{swept}
 use Rattle.tier.proofs.Slots.{begun, went_on, fewer, stopped_at, ended}
 use Rattle.tier.proofs.Sweeping.{preceded, saved_rows}
 use Rattle.tier.proofs.level.Level.sync_row.Goals as goal

@@ -1,5 +1,5 @@
 use Rattle.std.proofs.Common.{◌≡◌, length}
-use Rattle.row.specs.Rows.{model, entries, Standing, coming, passed}
+use Rattle.row.specs.Rows.{entries, Standing, coming, passed}
 use Rattle.tier.specs.Syncs.{swept}
 use Rattle.tier.proofs.Sweeping.{preceded}
 use Rattle.tier.proofs.level.Level.sync_row.Given as goal
