@@ -12,6 +12,15 @@ ROOT = pathlib.Path('.')
 SIGNATURE = re.compile(r'^(\s*)(?:\|\s*)?((?:(?:abbrev|unfoldable|pub|data|record|ruleset)\s+)*)([^\s(){}.:,;«»]+)\s+(?:\([^:]*:.*\)\s*)?:\s+(.*)$')
 HEAD = re.compile(r'^\s*(?:pub\s+)?(data|record|ruleset)\s+([^\s(){}.:,;«»]+)')
 DASHED = re.compile(r'[^\W\d_][^\s-]*(-[^\s-]+)+$')
+QUOTED = re.compile(r'«([^»]+)»')
+PLAIN = re.compile(r'[^\W\d]\w*$')
+# Variables of proofs, and names that an import gives.
+LOCAL = {name: name.replace('-', '_') for name in (
+    'alone-back b-is served-is t-size t-sound t-whole w-is telling-reads two-lines seen-lawful judged-trace now-served now-missed'
+    ' mount-numbered all-answer').split()} | {'All-same': 'all_same'}
+# Words that stay in quotes.
+RESERVED = set('data record deriving module where use mod pub package open as unfoldable abbrev axiom unfold unfolding ruleset mutual'
+               ' infix infixl infixr elim let in do Type coe fcoe tcoe hcom com'.split())
 TOKEN = re.compile(r"[^\s(){}.,;\[\]«»λ|↦]+")
 
 
@@ -45,9 +54,14 @@ def respelled(name):
     return name.replace('-', '_')
 
 
+def unquoted(match, mapping):
+    name = mapping.get(match.group(1), match.group(1))
+    return name if PLAIN.match(name) and name not in RESERVED else f'«{name}»'
+
+
 def main():
     names = own_names()
-    mapping = {}
+    mapping = dict(LOCAL)
     for name, places in names.items():
         capital = name[0].isupper()
         if capital and all('proofs' in p.parts for p in places):
@@ -78,13 +92,13 @@ def main():
                 continue
             lines.append(TOKEN.sub(lambda m: mapping.get(m.group(0), m.group(0)), line))
         new = ''.join(lines)
-        new = re.sub(r'«([^»]+)»', lambda m: mapping.get(m.group(1), m.group(0)), new)
+        new = QUOTED.sub(lambda m: unquoted(m, mapping), new)
         if new != text:
             path.write_text(new)
             changed += 1
     for path in sorted(ROOT.glob('crates/*/src/**/*.rt')):
         text = path.read_text()
-        new = re.sub(r'«([^»]+)»', lambda m: mapping.get(m.group(1), m.group(0)), text)
+        new = QUOTED.sub(lambda m: unquoted(m, mapping), text)
         if new != text:
             path.write_text(new)
             changed += 1

@@ -1,13 +1,13 @@
 // Whether a read can tell the stored blocks of two tiers apart.
 ghost use Rattle.std.specs.Prelude.{◌≡◌};
-ghost use Rattle.certificate.specs.Devices.{«same_block» as «one_same», same_devices as «All-same»};
+ghost use Rattle.certificate.specs.Devices.{same_block as one_same, same_devices as all_same};
 
 use device::BLOCK;
 use tier::Tier;
 
 // Whether block `b` is defective in both, or sound in both with the same bytes.
 fn same_block<F: Tier, S: Tier>(first: &F, second: &S, b: u32) -> bool
-    ensures { result ≡ «one_same» (F.Tier.model first.now).store (S.Tier.model second.now).store b }
+    ensures { result ≡ one_same (F.Tier.model first.now).store (S.Tier.model second.now).store b }
 {
     if !first.is_sound(b) {
         return !second.is_sound(b);
@@ -22,7 +22,7 @@ fn same_block<F: Tier, S: Tier>(first: &F, second: &S, b: u32) -> bool
 
 // Whether no read can tell them apart.
 pub fn same_devices<F: Tier, S: Tier>(first: &F, second: &S) -> bool
-    ensures { result ≡ «All-same» (F.Tier.model first.now).store (S.Tier.model second.now).store }
+    ensures { result ≡ all_same (F.Tier.model first.now).store (S.Tier.model second.now).store }
 {
     let blocks = first.blocks();
     if blocks != second.blocks() {

@@ -1,6 +1,6 @@
 // The reads that tell two sums of capacities apart.
 ghost use Rattle.std.specs.Prelude.{◌≡◌, reverse, take, IfOk, OnOk};
-ghost use Rattle.std.specs.Vec.{«vec_items» as items};
+ghost use Rattle.std.specs.Vec.{vec_items as items};
 ghost use Rattle.pile.specs.Reads.{passing, again, telling as told};
 
 use std::alloc::{AllocError, Global};

@@ -1,6 +1,6 @@
 // How much room levels have, and how many blocks are sound.
 ghost use Rattle.std.specs.Prelude.{◌≡◌, ◌≤◌, length};
-ghost use Rattle.pile.specs.Laws.{«sum_of» as summed, sound_count as sounds};
+ghost use Rattle.pile.specs.Laws.{sum_of as summed, sound_count as sounds};
 
 use tier::Tier;
 

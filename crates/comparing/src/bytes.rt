@@ -1,6 +1,6 @@
 // Comparing the layouts of two sheets, from bytes.
 ghost use Rattle.std.specs.Prelude.{◌≡◌, Ok};
-ghost use Rattle.comparing.specs.Sheets.{shown, memory_or, «listed_answer», sheets_answer, ListedProved, SheetsProved};
+ghost use Rattle.comparing.specs.Sheets.{shown, memory_or, listed_answer, sheets_answer, ListedProved, SheetsProved};
 ghost use Rattle.formats.specs.Seen.{listed};
 ghost use Rattle.formats.specs.SheetLaws.{Lawful};
 ghost use Rattle.formats.specs.Sheets.{sheet_of};
@@ -22,7 +22,7 @@ fn compare_with(
     image2: &[u8],
 ) -> Result<Comparison, LayoutFault>
     requires { Lawful (listed first.now) }
-    ensures answer { shown result ≡ memory_or result («listed_answer» (Ok (listed first.now)) j (sheet_of second.now) k image.now image2.now) }
+    ensures answer { shown result ≡ memory_or result (listed_answer (Ok (listed first.now)) j (sheet_of second.now) k image.now image2.now) }
     ensures proved { ListedProved (Ok (listed first.now)) j (sheet_of second.now) k image.now image2.now result }
 {
     match read_sheet(heap, second) {

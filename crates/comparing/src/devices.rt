@@ -1,6 +1,6 @@
 // The devices of two layouts, under their sheets' defects and levels.
 ghost use Rattle.std.specs.Prelude.{◌≡◌, [], MatchResult};
-ghost use Rattle.std.specs.Vec.{«vec_items» as items};
+ghost use Rattle.std.specs.Vec.{vec_items as items};
 ghost use Rattle.comparing.specs.declared.fault.LayoutFault.TheVariants.{Memory};
 ghost use Rattle.comparing.specs.Sheets.{Weighed, relayed};
 ghost use Rattle.formats.specs.Seen.{listed};

@@ -1,6 +1,6 @@
 // The layouts of two sheets over the same images, from bytes.
 ghost use Rattle.std.specs.Prelude.{◌≡◌, ◌≤◌};
-ghost use Rattle.std.specs.Vec.{«vec_items» as items};
+ghost use Rattle.std.specs.Vec.{vec_items as items};
 ghost use Rattle.comparing.specs.Sheets.{Weighed, Proved, shown, memory_or, layouts_answer};
 ghost use Rattle.device.specs.Bytes.{of_bytes as blocks};
 ghost use Rattle.formats.specs.Seen.{listed};

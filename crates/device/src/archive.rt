@@ -1,7 +1,7 @@
 // An archive: a source over bytes that are held for reading.
 ghost use Rattle.std.specs.Prelude.{◌≡◌};
 ghost use Rattle.device.specs.Bytes.{of_bytes as seen};
-ghost use Rattle.device.specs.Whole.{of_bytes_lawful as «seen-lawful»};
+ghost use Rattle.device.specs.Whole.{of_bytes_lawful as seen_lawful};
 
 use crate::blocks::{block_count, read_block};
 use crate::fault::DeviceFault;
@@ -25,7 +25,7 @@ impl<'a> Archive<'a> {
 impl<'a> Source for Archive<'a> {
     ghost store = { λ x. seen x.bytes.now };
 
-    ghost lawful = { λ x. «seen-lawful» x.bytes.now };
+    ghost lawful = { λ x. seen_lawful x.bytes.now };
 
     fn blocks(&self) -> u32 {
         block_count(self.bytes)

@@ -1,7 +1,7 @@
 // The refusals of a block device, in checking order.
 ghost use Rattle.std.specs.Prelude.{◌≡◌};
 ghost use Rattle.device.specs.Answers.{checked};
-ghost use Rattle.device.specs.Refusals.{«number_of» as numbered};
+ghost use Rattle.device.specs.Refusals.{number_of as numbered};
 
 // The length of a block in bytes.
 pub const BLOCK: usize = 256;

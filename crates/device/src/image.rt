@@ -1,7 +1,7 @@
 // An image: a device over bytes that are handed in for writing.
 ghost use Rattle.std.specs.Prelude.{◌≡◌};
 ghost use Rattle.device.specs.Bytes.{of_bytes as seen};
-ghost use Rattle.device.specs.Whole.{of_bytes_lawful as «seen-lawful»};
+ghost use Rattle.device.specs.Whole.{of_bytes_lawful as seen_lawful};
 ghost use Rattle.device.specs.Loans.{lent, owned};
 
 use crate::blocks::{block_count, read_block, write_block};
@@ -27,7 +27,7 @@ impl<'a> Image<'a> {
 impl<'a> Source for Image<'a> {
     ghost store = { λ x. seen x.bytes.now };
 
-    ghost lawful = { λ x. «seen-lawful» x.bytes.now };
+    ghost lawful = { λ x. seen_lawful x.bytes.now };
 
     fn blocks(&self) -> u32 {
         block_count(self.bytes)

@@ -80,9 +80,9 @@ module _ (cs bs : List ℕ) (bounded : All (λ c. c ≤ 65536) cs) (few : length
 pub stands : (cs bs : List ℕ) (names : List (List ℕ)) (hits : List ℕ) (floor : ℕ) → All (λ c. c ≤ 65536) cs → length bs ≤ 4000000000
     → pieces cs (once (reverse bs)) ≡ names → shares cs 0 (reverse bs) ≡ hits → total hits + floor ≡ length bs → RunStands cs bs names hits floor
 stands cs bs names hits floor bounded few p q n s l sound =
-    let served-is : (run cs bs s).hits ≡ hits = served cs bs bounded few s l sound ∙ q in
+    let served_is : (run cs bs s).hits ≡ hits = served cs bs bounded few s l sound ∙ q in
     record {
       named = named cs bs bounded few s l sound ∙ p;
-      served = served-is;
-      missed = omega (arith, all_served cs bs bounded few s l sound, ap total served-is, n);
+      served = served_is;
+      missed = omega (arith, all_served cs bs bounded few s l sound, ap total served_is, n);
     }

@@ -1,9 +1,9 @@
 // A list of defective blocks over any device.
 ghost use Rattle.std.specs.Prelude.{◌≡◌, []};
-ghost use Rattle.std.specs.Vec.{«vec_items» as items};
+ghost use Rattle.std.specs.Vec.{vec_items as items};
 ghost use Rattle.device.specs.Answers.{answer};
 ghost use Rattle.device.specs.Loans.{Loans};
-ghost use Rattle.layers.specs.Defects.{masked, listed, rises, listing, had_room as roomy, with_listed as relisted, «number_of» as numbered};
+ghost use Rattle.layers.specs.Defects.{masked, listed, rises, listing, had_room as roomy, with_listed as relisted, number_of as numbered};
 ghost use Rattle.layers.specs.Masked.{masked_lawful as lawfully};
 
 use device::{Device, DeviceFault, Source, admit};

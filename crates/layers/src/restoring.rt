@@ -1,8 +1,8 @@
 // Restoring: every block of a source to the same number on a device.
 ghost use Rattle.std.specs.Prelude.{◌≡◌, ◌&&◌, length, Ok};
 ghost use Rattle.layers.specs.declared.restoring.RestoreFault.TheVariants.{Block};
-ghost use Rattle.layers.specs.Restores.{«number_of» as numbered, restore_answer as answered, restored, copied};
-ghost use Rattle.layers.specs.Copies.{copy_answer as «one_answer», copy_store as «one_store»};
+ghost use Rattle.layers.specs.Restores.{number_of as numbered, restore_answer as answered, restored, copied};
+ghost use Rattle.layers.specs.Copies.{copy_answer as one_answer, copy_store as one_store};
 
 use device::{BLOCK, Device, DeviceFault, Source};
 
@@ -65,8 +65,8 @@ fn copy_one<S: Source, D: Device>(
     b: u32,
     buffer: &mut [u8],
 ) -> Result<(), DeviceFault>
-    ensures answer { result ≡ «one_answer» (S.Source.store source.now) (D.Source.store device.old) b (length buffer.old) }
-    ensures after { D.Source.store device.new ≡ «one_store» (S.Source.store source.now) (D.Source.store device.old) b (length buffer.old) }
+    ensures answer { result ≡ one_answer (S.Source.store source.now) (D.Source.store device.old) b (length buffer.old) }
+    ensures after { D.Source.store device.new ≡ one_store (S.Source.store source.now) (D.Source.store device.old) b (length buffer.old) }
     ensures loans { D.Device.loans device.new ≡ D.Device.loans device.old }
 {
     source.read(b, buffer)?;

@@ -13,7 +13,7 @@ use Rattle.pile.specs.declared.faults.PileFault.TheVariants.{Full}
 use Rattle.pile.specs.Bare.{Bare, bare, bare_admitted, bare_stepped, bare_after}
 use Rattle.pile.specs.Laws.{Mountable, trail_of, sound_count, served, ServeAlike, sum_of, Sharp, EqualSums, Paired}
 use Rattle.pile.specs.Piles.{Call, read, write, sync}
-use Rattle.pile.specs.Reads.{reads_of, passing, again, telling as telling-reads}
+use Rattle.pile.specs.Reads.{reads_of, passing, again, telling as telling_reads}
 use Rattle.pile.specs.Recency.{has, leave, once, within, count_below}
 use Rattle.pile.proofs.Promised.{counted}
 use Rattle.pile.proofs.Recents.{nodup, nodup_head, nodup_cons, nodup_leave, nodup_once, nodup_take, leave_fresh, fresh_take}
@@ -210,7 +210,7 @@ reads_trail s (b ∷ bs) h l =
 -- a list of reads that room for a blocks does not serve and any more room does
 pub record Telling (s : Store) (a : ℕ) : Type 0 where
   pub trail : List ℕ
-  pub reads : reads_of (telling-reads s a) ≡ reads_for trail
+  pub reads : reads_of (telling_reads s a) ≡ reads_for trail
   pub made : trail_of (reads_for trail) s ≡ trail
   pub short : (k : ℕ) → k ≤ a → within k trail ≡ 0
   pub enough : (k : ℕ) → a < k → within k trail ≡ 1
@@ -244,18 +244,18 @@ module _ (m n : Model) (f : Mountable m) (g : Mountable n) (same : ReadAlike m.s
 
   -- the reads for the smaller sum are such a list
   module _ (t : ℕ) (least : min (sum_of m j) (sum_of n k) ≡ t) (w : Telling m.store t) where
-    those : reads_of (telling-reads m.store (min (sum_of m j) (sum_of n k))) ≡ reads_for w.trail
-    those = ap (λ x. reads_of (telling-reads m.store x)) least ∙ w.reads
+    those : reads_of (telling_reads m.store (min (sum_of m j) (sum_of n k))) ≡ reads_for w.trail
+    those = ap (λ x. reads_of (telling_reads m.store x)) least ∙ w.reads
 
-    first_of_those : served m j (reads_of (telling-reads m.store (min (sum_of m j) (sum_of n k)))) ≡ within (sum_of m j) w.trail
+    first_of_those : served m j (reads_of (telling_reads m.store (min (sum_of m j) (sum_of n k)))) ≡ within (sum_of m j) w.trail
     first_of_those = ap (λ cs. served m j cs) those ∙ (told_apart t w).0
 
-    second_of_those : served n k (reads_of (telling-reads m.store (min (sum_of m j) (sum_of n k)))) ≡ within (sum_of n k) w.trail
+    second_of_those : served n k (reads_of (telling_reads m.store (min (sum_of m j) (sum_of n k)))) ≡ within (sum_of n k) w.trail
     second_of_those = ap (λ cs. served n k cs) those ∙ (told_apart t w).1
 
   -- they tell the two apart wherever they differ
   pub tells : (min (sum_of m j) (sound_count m.store) ≡ min (sum_of n k) (sound_count m.store) → ⊥)
-      → served m j (reads_of (telling-reads m.store (min (sum_of m j) (sum_of n k)))) ≡ served n k (reads_of (telling-reads m.store (min (sum_of m j) (sum_of n k)))) → ⊥
+      → served m j (reads_of (telling_reads m.store (min (sum_of m j) (sum_of n k)))) ≡ served n k (reads_of (telling_reads m.store (min (sum_of m j) (sum_of n k)))) → ⊥
   tells d e =
       elim (cases_order (sum_of m j) (sum_of n k)) [
         | inl s ↦ d (ap (λ x. min x (sound_count m.store)) s)
@@ -279,7 +279,7 @@ module _ (m n : Model) (f : Mountable m) (g : Mountable n) (same : ReadAlike m.s
   only_alike s =
       elim (cases_eq (min (sum_of m j) (sound_count m.store)) (min (sum_of n k) (sound_count m.store))) [
         | inl e ↦ e
-        | inr d ↦ absurd (tells d (s (reads_of (telling-reads m.store (min (sum_of m j) (sum_of n k))))))
+        | inr d ↦ absurd (tells d (s (reads_of (telling_reads m.store (min (sum_of m j) (sum_of n k))))))
       ]
 
   pub sharp : Sharp m j n k

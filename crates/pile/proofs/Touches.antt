@@ -96,10 +96,10 @@ pub same_count : (rs qs : List RowModel) → caps rs ≡ caps qs → length rs �
 same_count rs qs h = sym (length-map rs (λ r. r.capacity)) ∙ (ap length h ∙ length-map qs (λ r. r.capacity))
 
 -- a touch that puts the entry e in front, where the bare device comes to hold t
-module _ (m : Model) (p : Pile) (d : Bare) (inv : Inv m p d) (e : Entry) (t : Store) (t-size : t.size ≡ d.store.size) (t-sound : t.sound ≡ d.store.sound)
+module _ (m : Model) (p : Pile) (d : Bare) (inv : Inv m p d) (e : Entry) (t : Store) (t_size : t.size ≡ d.store.size) (t_sound : t.sound ≡ d.store.sound)
     (takes : answer d.store e.number (length e.bytes) ≡ Ok tt) (bytes : e.bytes ≡ t.at e.number)
     (saved : is_saved e.mark ≡ true → p.tier.store.at e.number ≡ t.at e.number) (others : (n : ℕ) → eqb e.number n ≡ false → t.at n ≡ d.store.at n)
-    (t-whole : (b : ℕ) → b < t.size → length (t.at b) ≡ 256) where
+    (t_whole : (b : ℕ) → b < t.size → length (t.at b) ≡ 256) where
   once_each : distinct (flat p.tier.rows) ≡ true
   once_each = distinct_numbers (flat p.tier.rows) ∙ (ap nodup inv.recent ∙ nodup_take (room p.tier.rows) (once d.trail) (nodup_once d.trail))
 
@@ -192,7 +192,7 @@ module _ (m : Model) (p : Pile) (d : Bare) (inv : Inv m p d) (e : Entry) (t : St
   settled_ready : Ready t (flat (moved p e).rows)
   settled_ready =
       subst (λ es. Ready t es) (sym out.holds) (All-take (λ x. answer t x.number (length x.bytes) ≡ Ok tt) (room p.tier.rows) held
-      (ready_same d.store t (sym t-size) (sym t-sound) held held_ready))
+      (ready_same d.store t (sym t_size) (sym t_sound) held held_ready))
 
   -- what holds of a pile over a tier that is put in place of its own
   Over : Model → Type 0
@@ -212,9 +212,9 @@ module _ (m : Model) (p : Pile) (d : Bare) (inv : Inv m p d) (e : Entry) (t : St
         (
           settled_ready,
           (
-            ap (λ s. s.size) out.stored ∙ (fell.size ∙ (inv.size ∙ sym t-size)),
+            ap (λ s. s.size) out.stored ∙ (fell.size ∙ (inv.size ∙ sym t_size)),
             (
-              ap (λ s. s.sound) out.stored ∙ (fell.sound ∙ (inv.sound ∙ sym t-sound)),
+              ap (λ s. s.sound) out.stored ∙ (fell.sound ∙ (inv.sound ∙ sym t_sound)),
               (length_hit (found e.number p.tier.rows) p.hits ∙ (inv.many ∙ sym (same_count (moved p e).rows p.tier.rows out.same_caps)), new_served),
             ),
           ),
@@ -235,7 +235,7 @@ module _ (m : Model) (p : Pile) (d : Bare) (inv : Inv m p d) (e : Entry) (t : St
         ready = o.1.1.1.0;
         size = o.1.1.1.1.0;
         sound = o.1.1.1.1.1.0;
-        whole = t-whole;
+        whole = t_whole;
         many = ap length new_hits ∙ o.1.1.1.1.1.1.0;
         served = λ j. ap (λ hs. total (take j hs)) new_hits ∙ o.1.1.1.1.1.1.1 j;
         all = touches_more e.number record { store = (moved p e).store; rows = (moved p e).rows } p inv.many ∙ ap suc inv.all;

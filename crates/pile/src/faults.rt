@@ -1,7 +1,7 @@
 // Why a pile refused.
 ghost use Rattle.std.specs.Prelude.{◌≡◌};
-ghost use Rattle.pile.specs.Refusals.{«number_of» as numbered};
-ghost use Rattle.pile.specs.Mounts.{mount_number_of as «mount-numbered»};
+ghost use Rattle.pile.specs.Refusals.{number_of as numbered};
+ghost use Rattle.pile.specs.Mounts.{mount_number_of as mount_numbered};
 ghost use Rattle.pile.specs.declared.faults.PileFault.TheVariants.{Device as OfDevice};
 
 use device::DeviceFault;
@@ -51,7 +51,7 @@ pub enum MountFault {
 impl MountFault {
     // The number by which the refusal is told.
     pub fn number(self) -> u8
-        ensures { result ≡ «mount-numbered» self }
+        ensures { result ≡ mount_numbered self }
     {
         match self {
             MountFault::Entries => 6,

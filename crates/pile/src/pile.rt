@@ -4,7 +4,7 @@ ghost use Rattle.std.specs.Option.{option_map};
 ghost use Rattle.device.specs.Answers.{answer};
 ghost use Rattle.tier.specs.Lifts.{found, lifted, bytes_or as contents};
 ghost use Rattle.tier.specs.Demotions.{demoted};
-ghost use Rattle.tier.specs.Tiers.{«model_of»};
+ghost use Rattle.tier.specs.Tiers.{model_of};
 ghost use Rattle.pile.specs.Piles.{read, write, sync, answered, stepped, admitted, counted, touches, mounted, fetched, dropped_result};
 ghost use Rattle.pile.specs.Mounts.{has_entry as holding, mount_answer};
 ghost use Rattle.pile.specs.Tallies.{pile_of as pile};
@@ -111,7 +111,7 @@ impl<T: Tier> Pile<T> {
     fn settle(&mut self, b: u32, mark: Mark, bytes: &[u8]) -> Result<(), PileFault>
         requires { length bytes.now ≡ 256 }
         ensures answer { result ≡ dropped_result (demoted (T.Tier.model self.old.tier).rows (T.Tier.model self.old.tier).store (record { number = b; bytes = bytes.now; mark = mark })).dropped }
-        ensures tier { T.Tier.model self.new.tier ≡ «model_of» (demoted (T.Tier.model self.old.tier).rows (T.Tier.model self.old.tier).store (record { number = b; bytes = bytes.now; mark = mark })) }
+        ensures tier { T.Tier.model self.new.tier ≡ model_of (demoted (T.Tier.model self.old.tier).rows (T.Tier.model self.old.tier).store (record { number = b; bytes = bytes.now; mark = mark })) }
         ensures tallies { self.new.tallies ≡ self.old.tallies }
         ensures loans { T.Tier.loans self.new.tier ≡ T.Tier.loans self.old.tier }
     {

@@ -1,14 +1,14 @@
 // Replaying from bytes to bytes.
 ghost use Rattle.std.specs.Prelude.{◌≡◌, ◌≤◌, false, [], length, is_ok, if◌then◌else◌, Ok};
-ghost use Rattle.std.specs.Vec.{«vec_items» as items, vec_capacity as room};
+ghost use Rattle.std.specs.Vec.{vec_items as items, vec_capacity as room};
 ghost use Rattle.device.specs.Bytes.{of_bytes as blocks};
 ghost use Rattle.formats.specs.Seen.{listed};
 ghost use Rattle.formats.specs.SheetLaws.{Lawful};
 ghost use Rattle.pile.specs.Tallies.{hits_of as served};
 ghost use Rattle.restoring.specs.Stacks.{BlocksTell};
 ghost use Rattle.replaying.specs.Calls.{calls_of, EveryLine};
-ghost use Rattle.replaying.specs.Layouts.{tier_of, «first_of», second_of};
-ghost use Rattle.replaying.specs.Replays.{level_tallies, «told_of», replay_answer, plan_of, left_on, first_left, second_left, memory_or};
+ghost use Rattle.replaying.specs.Layouts.{tier_of, first_of, second_of};
+ghost use Rattle.replaying.specs.Replays.{level_tallies, told_of, replay_answer, plan_of, left_on, first_left, second_left, memory_or};
 ghost use Rattle.replaying.specs.Seen.{seen};
 
 use crate::fault::ReplayFault;
@@ -52,8 +52,8 @@ fn replay_sheet(
     body: &[u8],
 ) -> Result<Replayed, ReplayFault>
     requires { Lawful (listed sheet.now) }
-    ensures answer { seen result ≡ memory_or result (Ok («told_of» (items sheet.now.levels) (calls_of body.now) (tier_of (listed sheet.now) first.old second.old))) }
-    ensures first { (blocks first.new).at ≡ (if is_ok result then «first_of» sheet.now.images (left_on (listed sheet.now) first.old second.old body.now) else (blocks first.old).at) }
+    ensures answer { seen result ≡ memory_or result (Ok (told_of (items sheet.now.levels) (calls_of body.now) (tier_of (listed sheet.now) first.old second.old))) }
+    ensures first { (blocks first.new).at ≡ (if is_ok result then first_of sheet.now.images (left_on (listed sheet.now) first.old second.old body.now) else (blocks first.old).at) }
     ensures second { (blocks second.new).at ≡ (if is_ok result then second_of sheet.now.images (blocks second.old).at (left_on (listed sheet.now) first.old second.old body.now) else (blocks second.old).at) }
 {
     let levels = Vec::with_capacity(heap, sheet.levels.len())?;

@@ -1,6 +1,6 @@
 // Why nothing was replayed.
 ghost use Rattle.std.specs.Prelude.{◌≡◌};
-ghost use Rattle.replaying.specs.Faults.{«number_of» as numbered, of_sheet as converted};
+ghost use Rattle.replaying.specs.Faults.{number_of as numbered, of_sheet as converted};
 ghost use Rattle.replaying.specs.declared.fault.ReplayFault.TheVariants.{Trace as OfTrace, Memory};
 
 use formats::{SheetFault, TraceFault};

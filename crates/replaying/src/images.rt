@@ -1,7 +1,7 @@
 // The device that a sheet lists over its images, and the run of a trace on it.
 // Each layer is made by one small function over any device, so that what the slices hold at the end is known.
 ghost use Rattle.std.specs.Prelude.{◌≡◌, ◌≤◌, []};
-ghost use Rattle.std.specs.Vec.{«vec_items» as items};
+ghost use Rattle.std.specs.Vec.{vec_items as items};
 ghost use Rattle.device.specs.Bytes.{of_bytes as seen};
 ghost use Rattle.formats.specs.Seen.{listed};
 ghost use Rattle.formats.specs.SheetLaws.{Lawful};
@@ -9,7 +9,7 @@ ghost use Rattle.layers.specs.Defects.{masked};
 ghost use Rattle.layers.specs.Stripes.{striped};
 ghost use Rattle.replaying.specs.Bounds.{Rising};
 ghost use Rattle.replaying.specs.Calls.{calls_of};
-ghost use Rattle.replaying.specs.Layouts.{device_of, tier_over, tier_of, first_half, second_half, «first_of», second_of};
+ghost use Rattle.replaying.specs.Layouts.{device_of, tier_over, tier_of, first_half, second_half, first_of, second_of};
 ghost use Rattle.replaying.specs.Outcomes.{FilledOr, TellsOr, blocks_after};
 
 use crate::fault::ReplayFault;
@@ -160,7 +160,7 @@ pub fn replay_images(
 ) -> Result<Outcome, ReplayFault>
     requires { Lawful (listed sheet.now) }
     ensures told { TellsOr result (calls_of body.now) (tier_of (listed sheet.now) first.old second.old) }
-    ensures first { (seen first.new).at ≡ «first_of» sheet.now.images (blocks_after result (calls_of body.now) (device_of (listed sheet.now) first.old second.old)) }
+    ensures first { (seen first.new).at ≡ first_of sheet.now.images (blocks_after result (calls_of body.now) (device_of (listed sheet.now) first.old second.old)) }
     ensures second { (seen second.new).at ≡ second_of sheet.now.images (seen second.old).at (blocks_after result (calls_of body.now) (device_of (listed sheet.now) first.old second.old)) }
 {
     match sheet.images {

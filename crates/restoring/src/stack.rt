@@ -1,12 +1,12 @@
 // Restoring onto a stripe of two images under a defect list, from bytes to bytes.
 // Each layer is made by one small function over any device, so that what the slices hold at the end is known.
 ghost use Rattle.std.specs.Prelude.{◌≡◌, ℕ, true, false, List, [], is_ok, if◌then◌else◌, Err};
-ghost use Rattle.std.specs.Vec.{«vec_items» as items};
+ghost use Rattle.std.specs.Vec.{vec_items as items};
 ghost use Rattle.restoring.specs.declared.stack.StackFault.TheVariants.{Unit as OfUnit, Defects as OfDefects, Restore as OfRestore};
 ghost use Rattle.layers.specs.declared.defects.DefectFault.TheVariants.{Memory};
 ghost use Rattle.device.specs.Bytes.{of_bytes as seen};
 ghost use Rattle.layers.specs.Defects.{had_room as roomy};
-ghost use Rattle.restoring.specs.Stacks.{«number_of» as numbered, list_answer as «all-answer», «listed_answer», stack_answer, memory_or, blocks_after, first_after, second_after, BlocksTell};
+ghost use Rattle.restoring.specs.Stacks.{number_of as numbered, list_answer as all_answer, listed_answer, stack_answer, memory_or, blocks_after, first_after, second_after, BlocksTell};
 
 use device::{Archive, Device, Image, Source};
 use layers::{DefectFault, DefectList, RestoreFault, Stripe, UnitFault, restore};
@@ -60,7 +60,7 @@ impl From<RestoreFault> for StackFault {
 // Lists all the numbers on an empty list.
 fn list_all<D>(list: &mut DefectList<D>, numbers: &[u32]) -> Result<(), DefectFault>
     requires { items list.old.numbers ≡ [] }
-    ensures answer { result ≡ (if roomy result then «all-answer» [] numbers.now else Err Memory) }
+    ensures answer { result ≡ (if roomy result then all_answer [] numbers.now else Err Memory) }
     ensures numbers { is_ok result ≡ true → items list.new.numbers ≡ numbers.now }
     ensures below { list.new.below ≡ list.old.below }
 {
@@ -77,7 +77,7 @@ fn restore_under<S: Source, D: Device>(
     numbers: &[u32],
 ) -> Result<u32, StackFault>
     requires { items list.old.numbers ≡ [] }
-    ensures answer { result ≡ memory_or result («listed_answer» numbers.now (S.Source.store source.now) (D.Source.store list.old.below)) }
+    ensures answer { result ≡ memory_or result (listed_answer numbers.now (S.Source.store source.now) (D.Source.store list.old.below)) }
     ensures after { (D.Source.store list.new.below).at ≡ blocks_after result (S.Source.store source.now) (D.Source.store list.old.below) }
     ensures loans { D.Device.loans list.new.below ≡ D.Device.loans list.old.below }
 {
@@ -92,7 +92,7 @@ fn restore_listed<S: Source, D: Device>(
     device: &mut D,
     numbers: &[u32],
 ) -> Result<u32, StackFault>
-    ensures answer { result ≡ memory_or result («listed_answer» numbers.now (S.Source.store source.now) (D.Source.store device.old)) }
+    ensures answer { result ≡ memory_or result (listed_answer numbers.now (S.Source.store source.now) (D.Source.store device.old)) }
     ensures after { (D.Source.store device.new).at ≡ blocks_after result (S.Source.store source.now) (D.Source.store device.old) }
     ensures loans { D.Device.loans device.new ≡ D.Device.loans device.old }
 {

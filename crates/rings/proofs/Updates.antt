@@ -94,9 +94,9 @@ module _ (n p : List ℕ) (wn : length n ≡ 32) (wp : length p ≡ 32) (there :
       (distinct_without x (ring_of n r) (closed_distinct n p r (h r few)))
 
 -- a slot that stands alone is put between two places that are linked
-module _ (n p : List ℕ) (wn : length n ≡ 32) (wp : length p ≡ 32) (there : Paired n p) (back : Paired p n) (x u v : ℕ) (in' : x < 32) (alone : get_or n x 0 ≡ x) (alone-back : get_or p x 0 ≡ x) (uin : u < 32) (vin : v < 32) (uv : get_or n u 0 ≡ v) (vu : get_or p v 0 ≡ u) (ux : u ≡ x → ⊥) where
+module _ (n p : List ℕ) (wn : length n ≡ 32) (wp : length p ≡ 32) (there : Paired n p) (back : Paired p n) (x u v : ℕ) (in' : x < 32) (alone : get_or n x 0 ≡ x) (alone_back : get_or p x 0 ≡ x) (uin : u < 32) (vin : v < 32) (uv : get_or n u 0 ≡ v) (vu : get_or p v 0 ≡ u) (ux : u ≡ x → ⊥) where
   vx : v ≡ x → ⊥
-  vx q = ux (sym vu ∙ (ap (λ j. get_or p j 0) q ∙ alone-back))
+  vx q = ux (sym vu ∙ (ap (λ j. get_or p j 0) q ∙ alone_back))
 
   pub in_paired : Paired (in_links n u x v) (in_links p v x u)
   in_paired i h =
@@ -110,7 +110,7 @@ module _ (n p : List ℕ) (wn : length n ≡ 32) (wp : length p ≡ 32) (there :
               (omega arith, ap (λ j. get_or (in_links p v x u) j 0) e ∙ (two_later p v x x u (omega arith) ∙ sym iu))
           | inr iu ↦
               let e : get_or (in_links n u x v) i 0 ≡ get_or n i 0 = two_other n u x x v i iu ix in
-              let jx : get_or n i 0 ≡ x → ⊥ = λ q. ix (sym (there i h).1 ∙ (ap (λ j. get_or p j 0) q ∙ alone-back)) in
+              let jx : get_or n i 0 ≡ x → ⊥ = λ q. ix (sym (there i h).1 ∙ (ap (λ j. get_or p j 0) q ∙ alone_back)) in
               let jv : get_or n i 0 ≡ v → ⊥ = λ q. iu (sym (there i h).1 ∙ (ap (λ j. get_or p j 0) q ∙ vu)) in
               (let q = (there i h).0 in omega arith, ap (λ j. get_or (in_links p v x u) j 0) e ∙ (two_other p v x x u (get_or n i 0) jv jx ∙ (there i h).1))
         ]
@@ -132,7 +132,7 @@ apart_both : (u x : ℕ) (xs : List ℕ) → 16 ≤ u → All (λ y. y < 16) xs 
 apart_both u x [] big a b = tt
 apart_both u x (y ∷ ys) big a b = (((λ q. let k = a.0 in omega arith), b.0), apart_both u x ys big a.1 b.1)
 
-module _ (n p : List ℕ) (wn : length n ≡ 32) (wp : length p ≡ 32) (there : Paired n p) (back : Paired p n) (shut : Closed n p) (x r : ℕ) (low : x < 16) (few : r < 16) (alone : get_or n x 0 ≡ x) (alone-back : get_or p x 0 ≡ x) where
+module _ (n p : List ℕ) (wn : length n ≡ 32) (wp : length p ≡ 32) (there : Paired n p) (back : Paired p n) (shut : Closed n p) (x r : ℕ) (low : x < 16) (few : r < 16) (alone : get_or n x 0 ≡ x) (alone_back : get_or p x 0 ≡ x) where
   abbrev front : ℕ
   front = get_or n (16 + r) 0
 
@@ -143,29 +143,29 @@ module _ (n p : List ℕ) (wn : length n ≡ 32) (wp : length p ≡ 32) (there :
   p' = in_links p front x (16 + r)
 
   pub in_there : Paired n' p'
-  in_there = in_paired n p wn wp there back x (16 + r) front (omega arith) alone alone-back (omega arith) (there (16 + r) (omega arith)).0 refl (there (16 + r) (omega arith)).1 (λ e. omega arith)
+  in_there = in_paired n p wn wp there back x (16 + r) front (omega arith) alone alone_back (omega arith) (there (16 + r) (omega arith)).0 refl (there (16 + r) (omega arith)).1 (λ e. omega arith)
 
   pub in_back : Paired p' n'
   in_back =
-      in_paired p n wp wn back there x front (16 + r) (omega arith) alone-back alone (there (16 + r) (omega arith)).0 (omega arith) (there (16 + r) (omega arith)).1 refl
-      (vx n p wn wp there back x (16 + r) front (omega arith) alone alone-back (omega arith) (there (16 + r) (omega arith)).0 refl (there (16 + r) (omega arith)).1 (λ e. omega arith))
+      in_paired p n wp wn back there x front (16 + r) (omega arith) alone_back alone (there (16 + r) (omega arith)).0 (omega arith) (there (16 + r) (omega arith)).1 refl
+      (vx n p wn wp there back x (16 + r) front (omega arith) alone alone_back (omega arith) (there (16 + r) (omega arith)).0 refl (there (16 + r) (omega arith)).1 (λ e. omega arith))
 
   kept : (q : ℕ) (c : ℕ) (xs : List ℕ) → (c ≡ 16 + r → ⊥) × (c ≡ x → ⊥) → member x xs ≡ false → Chain n p c xs (16 + q) → Chain n' p' c xs (16 + q)
   kept q c xs cn m h =
       let a = all_apart x xs m in
       frame n p n' p' (λ y. (y ≡ 16 + r → ⊥) × (y ≡ x → ⊥)) (λ y. y ≡ x → ⊥)
-      (in_keeps n p wn wp there back x (16 + r) front (omega arith) alone alone-back (omega arith) (there (16 + r) (omega arith)).0 refl (there (16 + r) (omega arith)).1 (λ e. omega arith))
+      (in_keeps n p wn wp there back x (16 + r) front (omega arith) alone alone_back (omega arith) (there (16 + r) (omega arith)).0 refl (there (16 + r) (omega arith)).1 (λ e. omega arith))
       c xs (16 + q) cn (λ e. omega arith) (apart_both (16 + r) x xs (omega arith) (chain_slots n p c xs (16 + q) h) a) a h
 
   other : (q : ℕ) (xs : List ℕ) → (q ≡ r → ⊥) → member x xs ≡ false → Chain n p (16 + q) xs (16 + q) → Chain n' p' (16 + q) xs (16 + q)
   other q xs ne m h = kept q (16 + q) xs ((λ e. ne (omega arith)), (λ e. omega arith)) m h
 
   before : Link n' p' (16 + r) x
-  before = in_before n p wn wp there back x (16 + r) front (omega arith) alone alone-back (omega arith) (there (16 + r) (omega arith)).0 refl (there (16 + r) (omega arith)).1 (λ e. omega arith)
+  before = in_before n p wn wp there back x (16 + r) front (omega arith) alone alone_back (omega arith) (there (16 + r) (omega arith)).0 refl (there (16 + r) (omega arith)).1 (λ e. omega arith)
 
   behind : (y : ℕ) → front ≡ y → Link n' p' x y
   behind y e =
-      let l = in_behind n p wn wp there back x (16 + r) front (omega arith) alone alone-back (omega arith) (there (16 + r) (omega arith)).0 refl (there (16 + r) (omega arith)).1 (λ e. omega arith) in
+      let l = in_behind n p wn wp there back x (16 + r) front (omega arith) alone alone_back (omega arith) (there (16 + r) (omega arith)).0 refl (there (16 + r) (omega arith)).1 (λ e. omega arith) in
       (l.0 ∙ e, ap (λ j. get_or p' j 0) (sym e) ∙ l.1)
 
   rest : (xs : List ℕ) → member x xs ≡ false → Chain n p (16 + r) xs (16 + r) → Chain n' p' x xs (16 + r)
@@ -241,14 +241,14 @@ pub out_lone : (n p n' : List ℕ) (x : ℕ) → x < 16 → length n ≡ 32 → 
 out_lone n p n' x low wn e = rw e (two_later n (get_or p x 0) (get_or n x 0) x x (omega arith))
 
 pub in_sound : (n p n' p' : List ℕ) (x r : ℕ) → x < 16 → r < 16 → Sound n p → get_or n x 0 ≡ x → get_or p x 0 ≡ x → ((q : ℕ) → q < 16 → member x (ring_of n q) ≡ false) → n' ≡ in_links n (16 + r) x (get_or n (16 + r) 0) → p' ≡ in_links p (get_or n (16 + r) 0) x (16 + r) → Sound n' p'
-in_sound n p n' p' x r low few k alone alone-back free e f =
+in_sound n p n' p' x r low few k alone alone_back free e f =
     rw (e, f) (record {
       wide = two_length n (16 + r) x x (get_or n (16 + r) 0) k.wide;
       wide_back = two_length p (get_or n (16 + r) 0) x x (16 + r) k.wide_back;
-      paired = in_there n p k.wide k.wide_back k.paired k.paired_back k.closed x r low few alone alone-back;
-      paired_back = in_back n p k.wide k.wide_back k.paired k.paired_back k.closed x r low few alone alone-back;
-      closed = in_closed n p k.wide k.wide_back k.paired k.paired_back k.closed x r low few alone alone-back free;
+      paired = in_there n p k.wide k.wide_back k.paired k.paired_back k.closed x r low few alone alone_back;
+      paired_back = in_back n p k.wide k.wide_back k.paired k.paired_back k.closed x r low few alone alone_back;
+      closed = in_closed n p k.wide k.wide_back k.paired k.paired_back k.closed x r low few alone alone_back free;
     })
 
 pub in_rings : (n p n' : List ℕ) (x r : ℕ) → x < 16 → r < 16 → Sound n p → get_or n x 0 ≡ x → get_or p x 0 ≡ x → ((q : ℕ) → q < 16 → member x (ring_of n q) ≡ false) → n' ≡ in_links n (16 + r) x (get_or n (16 + r) 0) → (q : ℕ) → q < 16 → ring_of n' q ≡ cond (eqb q r) (x ∷ ring_of n q) (ring_of n q)
-in_rings n p n' x r low few k alone alone-back free e q h = rw e (in_ring n p k.wide k.wide_back k.paired k.paired_back k.closed x r low few alone alone-back free q h)
+in_rings n p n' x r low few k alone alone_back free e q h = rw e (in_ring n p k.wide k.wide_back k.paired k.paired_back k.closed x r low few alone alone_back free q h)

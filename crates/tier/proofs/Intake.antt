@@ -182,10 +182,10 @@ module _ (r : RowModel) (l : Lawful r) (m : Model) (v : Victim) (bytes : List �
       go None e = absurd (let y : ◌≡◌ (Some w) None = h ∙ ap (λ t. option_map victim_of t) e in let z : ◌≡◌ {A = ℕ} 0 1 = cc in omega arith)
       go (Some u) e =
           let y : ◌≡◌ (Some w) (Some (victim_of u)) = h ∙ ap (λ t. option_map victim_of t) e in
-          let w-is : w ≡ victim_of u = cc in
-          let b-is : buf ≡ u.bytes = b ∙ ap (λ t. contents t begun) e in
+          let w_is : w ≡ victim_of u = cc in
+          let b_is : buf ≡ u.bytes = b ∙ ap (λ t. contents t begun) e in
           taken_full r l m (entry_of_victim v bytes) u (ap (λ p. leaving (lost_in p r)) (sym same_number) ∙ e)
-          ∙ (λ i. over (sym made_row i) (demoted m.rows m.store (entry_of_victim (sym w-is i) (sym b-is i))))
+          ∙ (λ i. over (sym made_row i) (demoted m.rows m.store (entry_of_victim (sym w_is i) (sym b_is i))))
 
 pub handed_answer : (w : Victim) (len : ℕ) (d : Option Dropped) → len ≡ 256 → raised_answer (demote_answer w len d) ≡ dropped_answer (option_map raised d)
 handed_answer w len d h = ap raised_answer (cond_yes (eqb len 256) (dropped_answer d) (Err (OfLength w)) (eq-eqb len 256 h)) ∙ raised_dropped d

@@ -7,7 +7,7 @@ ghost use Rattle.row.specs.Rows.{model as kept, Stands, held, above, below};
 ghost use Rattle.tier.specs.Lifts.{lift_answer, lift_buffer, lift_after, deeper_answer};
 ghost use Rattle.tier.specs.Syncs.{swept, save_answer, save_entry, save_model};
 ghost use Rattle.tier.specs.Refusals.{sync_answer, demote_answer, raised_answer, dropped_answer};
-ghost use Rattle.tier.specs.Tiers.{demotion, demote_after, victim_of, «model_of»};
+ghost use Rattle.tier.specs.Tiers.{demotion, demote_after, victim_of, model_of};
 ghost use Rattle.tier.specs.Levels.{level_model, level_lawful, lost_in};
 
 use crate::faults::{DemoteFault, Dropped, LiftFault, Lifted};
@@ -111,7 +111,7 @@ impl<T: Tier> Level<T> {
     fn take_in(&mut self, victim: Victim, bytes: &[u8]) -> Result<(), DemoteFault>
         requires { length bytes.now ≡ 256 }
         ensures answer { result ≡ dropped_answer (demotion (level_model (kept self.old.row) (T.Tier.model self.old.below)) victim bytes.now).dropped }
-        ensures after { level_model (kept self.new.row) (T.Tier.model self.new.below) ≡ «model_of» (demotion (level_model (kept self.old.row) (T.Tier.model self.old.below)) victim bytes.now) }
+        ensures after { level_model (kept self.new.row) (T.Tier.model self.new.below) ≡ model_of (demotion (level_model (kept self.old.row) (T.Tier.model self.old.below)) victim bytes.now) }
         ensures loans { T.Tier.loans self.new.below ≡ T.Tier.loans self.old.below }
     {
         let mut buffer = [0u8; BLOCK];

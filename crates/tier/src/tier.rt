@@ -4,7 +4,7 @@ ghost use Rattle.device.specs.Answers.{answer, filled};
 ghost use Rattle.device.specs.Loans.{Loans};
 ghost use Rattle.tier.specs.Lifts.{lift_answer, lift_buffer, lift_after};
 ghost use Rattle.tier.specs.Models.{Model, LawfulModel};
-ghost use Rattle.tier.specs.Questions.{level_count, capacity_of, «entry_of»};
+ghost use Rattle.tier.specs.Questions.{level_count, capacity_of, entry_of};
 ghost use Rattle.tier.specs.Refusals.{demote_answer, sync_answer};
 ghost use Rattle.tier.specs.Syncs.{synced};
 ghost use Rattle.tier.specs.Tiers.{demotion, demote_after, save_after, sync_after};
@@ -43,7 +43,7 @@ pub trait Tier {
 
     // Number and mark of the entry at a place of a level.
     fn entry(&self, level: u32, place: u32) -> Option<Tag>
-        ensures { result ≡ «entry_of» (model self.now).rows level place };
+        ensures { result ≡ entry_of (model self.now).rows level place };
 
     // Takes block `b` out of the first level from the top that has it, its bytes into the buffer.
     fn lift(&mut self, b: u32, buffer: &mut [u8]) -> Result<Option<Lifted>, LiftFault>

@@ -1,6 +1,6 @@
 // How long the lines of a report are.
 ghost use Rattle.std.specs.Prelude.{◌≡◌, ◌≤◌, length, decimal, nat_le};
-ghost use Rattle.formats.specs.Reports.{level_line as «one_line», last_lines as «two-lines», report};
+ghost use Rattle.formats.specs.Reports.{level_line as one_line, last_lines as two_lines, report};
 
 use crate::report::LevelTally;
 
@@ -13,7 +13,7 @@ fn digit_count(n: u64) -> usize
 }
 
 fn level_length(i: u64, level: &LevelTally) -> usize
-    ensures { result ≡ length («one_line» i level.now) }
+    ensures { result ≡ length (one_line i level.now) }
 {
     let capacity = digit_count(level.capacity as u64);
     let hits = digit_count(level.hits as u64);
@@ -21,7 +21,7 @@ fn level_length(i: u64, level: &LevelTally) -> usize
 }
 
 fn last_length(floor: u64, refused: u64) -> usize
-    ensures { result ≡ length («two-lines» floor refused) }
+    ensures { result ≡ length (two_lines floor refused) }
 {
     16 + digit_count(floor) + digit_count(refused)
 }

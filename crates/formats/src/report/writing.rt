@@ -1,6 +1,6 @@
 // Writing a report into a buffer that is handed in.
 ghost use Rattle.std.specs.Prelude.{◌≡◌, ◌+◌, ◌<◌, ◌≤◌, [], ◌∷◌, length, decimal};
-ghost use Rattle.formats.specs.Reports.{«number_of» as numbered, field, level_line as «one_line», level_lines as «all_lines», «last_line» as «word_line», last_lines as «two-lines», report, report_answer as answered, report_buffer as filled, placed, Wrote};
+ghost use Rattle.formats.specs.Reports.{number_of as numbered, field, level_line as one_line, level_lines as all_lines, last_line as word_line, last_lines as two_lines, report, report_answer as answered, report_buffer as filled, placed, Wrote};
 ghost use Rattle.formats.specs.ReportLaws.{ReadBack};
 
 use crate::report::lengths::report_fits;
@@ -57,8 +57,8 @@ fn put_field(buffer: &mut [u8], at: usize, word: &[u8], n: u64) -> usize
 }
 
 fn put_level(buffer: &mut [u8], at: usize, i: u64, level: &LevelTally) -> usize
-    requires { at + length («one_line» i level.now) ≤ length buffer.old }
-    ensures { Wrote («one_line» i level.now) at buffer.old buffer.new result }
+    requires { at + length (one_line i level.now) ≤ length buffer.old }
+    ensures { Wrote (one_line i level.now) at buffer.old buffer.new result }
 {
     let capacity = put_field(buffer, at, b"level ", i);
     let hits = put_field(buffer, capacity, b" capacity ", level.capacity as u64);
@@ -67,24 +67,24 @@ fn put_level(buffer: &mut [u8], at: usize, i: u64, level: &LevelTally) -> usize
 }
 
 fn put_line(buffer: &mut [u8], at: usize, word: &[u8], n: u64) -> usize
-    requires { at + length («word_line» word.now n) ≤ length buffer.old }
-    ensures { Wrote («word_line» word.now n) at buffer.old buffer.new result }
+    requires { at + length (word_line word.now n) ≤ length buffer.old }
+    ensures { Wrote (word_line word.now n) at buffer.old buffer.new result }
 {
     let end = put_field(buffer, at, word, n);
     put_byte(buffer, end, b'\n')
 }
 
 fn put_last(buffer: &mut [u8], at: usize, floor: u64, refused: u64) -> usize
-    requires { at + length («two-lines» floor refused) ≤ length buffer.old }
-    ensures { Wrote («two-lines» floor refused) at buffer.old buffer.new result }
+    requires { at + length (two_lines floor refused) ≤ length buffer.old }
+    ensures { Wrote (two_lines floor refused) at buffer.old buffer.new result }
 {
     let next = put_line(buffer, at, b"floor ", floor);
     put_line(buffer, next, b"refused ", refused)
 }
 
 fn put_levels(buffer: &mut [u8], levels: &[LevelTally]) -> usize
-    requires { length («all_lines» 1 levels.now) ≤ length buffer.old }
-    ensures { Wrote («all_lines» 1 levels.now) 0 buffer.old buffer.new result }
+    requires { length (all_lines 1 levels.now) ≤ length buffer.old }
+    ensures { Wrote (all_lines 1 levels.now) 0 buffer.old buffer.new result }
 {
     let mut at = 0;
     for (i, level) in levels.iter().enumerate() {

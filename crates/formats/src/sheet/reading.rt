@@ -1,10 +1,10 @@
 // Reading a sheet from the left, item by item.
 ghost use Rattle.std.specs.Prelude.{◌≡◌};
-ghost use Rattle.formats.specs.Sheets.{«number_of» as numbered, byte_within as within, number_from as from, after_header as headed, capacities, rising, levels_of, single, striped, images_of, defects_of, ended, sections, sheet_of};
+ghost use Rattle.formats.specs.Sheets.{number_of as numbered, byte_within as within, number_from as from, after_header as headed, capacities, rising, levels_of, single, striped, images_of, defects_of, ended, sections, sheet_of};
 ghost use Rattle.formats.specs.SheetLaws.{ToldRightly};
-ghost use Rattle.formats.specs.Seen.{seen, seen_rest as left, «seen_by», memory_or, seen_sheet, listed};
+ghost use Rattle.formats.specs.Seen.{seen, seen_rest as left, seen_by, memory_or, seen_sheet, listed};
 ghost use Rattle.formats.specs.declared.sheet.SheetFault.TheVariants.{Memory};
-ghost use Rattle.std.specs.Vec.{«vec_items» as items};
+ghost use Rattle.std.specs.Vec.{vec_items as items};
 
 use crate::sheet::{Images, Sheet, SheetFault};
 use std::alloc::{AllocFailed, Global};
@@ -78,7 +78,7 @@ fn read_capacities(
     count: u8,
     rest: &[u8],
 ) -> Result<(Vec<u8>, &[u8]), SheetFault>
-    ensures { «seen_by» items result ≡ memory_or result (capacities total count rest.now) }
+    ensures { seen_by items result ≡ memory_or result (capacities total count rest.now) }
 {
     let mut levels = Vec::new(heap);
     let mut rest = rest;
@@ -97,7 +97,7 @@ fn read_rising(
     count: u8,
     rest: &[u8],
 ) -> Result<(Vec<u16>, &[u8]), SheetFault>
-    ensures { «seen_by» items result ≡ memory_or result (rising total count rest.now) }
+    ensures { seen_by items result ≡ memory_or result (rising total count rest.now) }
 {
     let mut defects = Vec::new(heap);
     let mut rest = rest;
@@ -113,7 +113,7 @@ fn read_rising(
 
 // The levels' capacities, after their count.
 fn read_levels(heap: Global, total: usize, rest: &[u8]) -> Result<(Vec<u8>, &[u8]), SheetFault>
-    ensures { «seen_by» items result ≡ memory_or result (levels_of total rest.now) }
+    ensures { seen_by items result ≡ memory_or result (levels_of total rest.now) }
 {
     let (count, rest) = byte_within(total, 0, 4, rest)?;
     read_capacities(heap, total, count, rest)
@@ -150,7 +150,7 @@ fn read_images(total: usize, rest: &[u8]) -> Result<(Images, &[u8]), SheetFault>
 
 // The defects, after their count.
 fn read_defects(heap: Global, total: usize, rest: &[u8]) -> Result<(Vec<u16>, &[u8]), SheetFault>
-    ensures { «seen_by» items result ≡ memory_or result (defects_of total rest.now) }
+    ensures { seen_by items result ≡ memory_or result (defects_of total rest.now) }
 {
     let (count, rest) = byte_within(total, 0, 16, rest)?;
     read_rising(heap, total, count, rest)

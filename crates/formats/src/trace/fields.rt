@@ -1,6 +1,6 @@
 // The fields of a line.
 ghost use Rattle.std.specs.Prelude.{◌≡◌, true};
-ghost use Rattle.formats.specs.Traces.{within, plain, small_after as small, «number_in» as numbered, is_hex as digit, hex, fill_in as filled, cut as cutting};
+ghost use Rattle.formats.specs.Traces.{within, plain, small_after as small, number_in as numbered, is_hex as digit, hex, fill_in as filled, cut as cutting};
 ghost use Rattle.formats.specs.Shown.{shown_parts as parts};
 
 fn is_digit(c: u8) -> bool

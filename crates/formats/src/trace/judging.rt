@@ -1,8 +1,8 @@
 // The lines of a trace: all are judged first, and then taken one by one.
 ghost use Rattle.std.specs.Prelude.{◌≡◌, ℕ, List};
-ghost use Rattle.formats.specs.Traces.{«number_of» as numbered, said, read_fields as reading, write_fields as writing, sync_fields as syncing, first_line as first, lines, judged_after as judged, is_header as heading, judged as «judged-trace»};
+ghost use Rattle.formats.specs.Traces.{number_of as numbered, said, read_fields as reading, write_fields as writing, sync_fields as syncing, first_line as first, lines, judged_after as judged, is_header as heading, judged as judged_trace};
 ghost use Rattle.formats.specs.TraceLaws.{JudgedRightly as rightly, TakenRightly, ExamplesHold};
-ghost use Rattle.formats.specs.Shown.{shown_line as shown, shown_first as taken, «shown_rest» as left};
+ghost use Rattle.formats.specs.Shown.{shown_line as shown, shown_first as taken, shown_rest as left};
 
 use crate::trace::fields::{cut, fill_in, number_in};
 use crate::trace::{Line, TraceFault};
@@ -114,7 +114,7 @@ fn is_header(text: &[u8]) -> bool
 
 // Judges the header and the lines after it.
 fn judge_all(trace: &[u8]) -> Result<&[u8], TraceFault>
-    ensures { left result ≡ «judged-trace» trace.now }
+    ensures { left result ≡ judged_trace trace.now }
 {
     let Some((first, body)) = cut(trace, b'\n') else {
         return Err(TraceFault::Broken(1));
@@ -128,7 +128,7 @@ fn judge_all(trace: &[u8]) -> Result<&[u8], TraceFault>
 
 // Judges a whole trace, and gives the lines after its header.
 pub fn judge(trace: &[u8]) -> Result<&[u8], TraceFault>
-    ensures answer { left result ≡ «judged-trace» trace.now }
+    ensures answer { left result ≡ judged_trace trace.now }
     ensures first { rightly trace.now }
     ensures taken { (rest : List ℕ) → TakenRightly rest }
 {

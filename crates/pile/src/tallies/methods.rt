@@ -1,9 +1,9 @@
 // What tallies do.
 ghost use Rattle.std.specs.Prelude.{◌≡◌, ◌<◌, ◌≤◌, length, replicate};
 ghost use Rattle.tier.specs.Questions.{nth};
-ghost use Rattle.pile.specs.Piles.{«add_at» as raised};
+ghost use Rattle.pile.specs.Piles.{add_at as raised};
 ghost use Rattle.pile.specs.Recency.{total};
-ghost use Rattle.pile.specs.Tallies.{hits_of as served, «sum_of» as summed, hits_with as «now-served», floor_with as «now-missed»};
+ghost use Rattle.pile.specs.Tallies.{hits_of as served, sum_of as summed, hits_with as now_served, floor_with as now_missed};
 
 use crate::tallies::{LEVELS, Tallies};
 
@@ -87,8 +87,8 @@ impl Tallies {
     // One more touch, served by a level or by none.
     pub(crate) fn count(&mut self, level: Option<u8>)
         requires { summed self.old < 4000000000 }
-        ensures hits { served self.new ≡ «now-served» level (served self.old) }
-        ensures floor { self.new.floor ≡ «now-missed» level self.old.floor }
+        ensures hits { served self.new ≡ now_served level (served self.old) }
+        ensures floor { self.new.floor ≡ now_missed level self.old.floor }
     {
         match level {
             Some(level) => self.add(usize::from(level)),

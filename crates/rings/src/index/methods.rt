@@ -1,7 +1,7 @@
 // What an index does.
 ghost use Rattle.std.specs.Prelude.{◌≡◌, ℕ, ◌<◌, true, is_some, if◌then◌else◌, Some, None, MatchOption, ◌≢◌, nat_eq};
 ghost use Rattle.rings.specs.Buckets.{bucket, sought};
-ghost use Rattle.rings.specs.Keys.{«key_of» as keyed};
+ghost use Rattle.rings.specs.Keys.{key_of as keyed};
 ghost use Rattle.rings.specs.Models.{ring};
 
 use crate::index::Index;

@@ -1,7 +1,7 @@
 // What rings do.
 ghost use Rattle.std.specs.Prelude.{◌≡◌, ℕ, ◌+◌, ◌<◌, true, [], ◌∷◌, length, if◌then◌else◌, nat_eq, slice_index};
 ghost use Rattle.rings.specs.Models.{ring, fronted};
-ghost use Rattle.rings.specs.Links.{Closed, Paired, «ring_of» as rung, «slot_at» as slotted};
+ghost use Rattle.rings.specs.Links.{Closed, Paired, ring_of as rung, slot_at as slotted};
 ghost use Rattle.rings.specs.Slots.{member, without, first, last, after};
 
 use crate::links::{put_in, take_out};

@@ -2,7 +2,7 @@
 ghost use Rattle.std.specs.Prelude.{◌≡◌, ◌<◌, [], ◌∷◌, ◌++◌, length, is_ok, if◌then◌else◌, Some, None, MatchOption};
 ghost use Rattle.std.specs.Option.{option_map};
 ghost use Rattle.rings.specs.Slots.{last};
-ghost use Rattle.row.specs.Entries.{find_entry as sought, without, front, save, «tag_of» as told, holding, bytes_or as contents, leaving, left};
+ghost use Rattle.row.specs.Entries.{find_entry as sought, without, front, save, tag_of as told, holding, bytes_or as contents, leaving, left};
 ghost use Rattle.row.specs.Refusals.{capacity_answer as answered};
 ghost use Rattle.row.specs.Rows.{model, entries, Stands, held, above, below};
 

@@ -1,7 +1,7 @@
 // What a row tells of itself.
 ghost use Rattle.std.specs.Prelude.{◌≡◌, [], ◌∷◌, ◌++◌, length, Some, None, MatchOption};
 ghost use Rattle.std.specs.Option.{option_map};
-ghost use Rattle.row.specs.Entries.{find_entry as sought, without, «tag_of» as told, «at_place» as placed};
+ghost use Rattle.row.specs.Entries.{find_entry as sought, without, tag_of as told, at_place as placed};
 ghost use Rattle.row.specs.Rows.{model, entries, Stands, Standing, held, above, below, passed, coming};
 
 use crate::frame::{Tag, mark_of};

@@ -4,7 +4,7 @@ ghost use Rattle.rings.specs.Slots.{member, without as unlisted, first, last, af
 ghost use Rattle.rings.specs.Models.{ring};
 ghost use Rattle.row.specs.declared.frame.Frame.{Frame};
 ghost use Rattle.row.specs.Entries.{without};
-ghost use Rattle.row.specs.Held.{entries_in as entries, «entry_in» as held, «above_in» as above, «below_in» as below, passed_in as passed, coming_in as coming, OnIf as Standing, Found, Last};
+ghost use Rattle.row.specs.Held.{entries_in as entries, entry_in as held, above_in as above, below_in as below, passed_in as passed, coming_in as coming, OnIf as Standing, Found, Last};
 ghost use Rattle.row.specs.Orders.{order, key};
 
 use crate::shelf::Shelf;
