@@ -44,7 +44,7 @@ module _ (s t : Store) (l : Lawful s) (k : Lawful t) where
   same_found h = record {
     size = e;
     sound = λ b. elim (cases_lt b s.size) [ inl g ↦ sound_alike b (each b g) | inr g ↦ past b s l refl (λ x. omega (arith, g, x)) ∙ sym (past b t k (sym e) (λ x. omega (arith, g, x))) ];
-    at = λ b g. bytes_alike b (each b (l.there b g)) g;
+    at = λ b g u. bytes_alike b (each b g) u;
   }
     where
       p : (eqb s.size t.size ≡ true) × (all_below (same_block s t) s.size ≡ true)
@@ -62,7 +62,7 @@ module _ (s t : Store) (l : Lawful s) (k : Lawful t) where
     where
       one : (b : ℕ) → same_block s t b ≡ true
       one b = elim (cases_Bool (s.sound b)) [
-        | inl g ↦ rw (g, sym (e.sound b) ∙ g) ((bytes_eq-Decides (s.at b) (t.at b)).1 (e.at b g))
+        | inl g ↦ rw (g, sym (e.sound b) ∙ g) ((bytes_eq-Decides (s.at b) (t.at b)).1 (e.at b (l.there b g) g))
         | inr g ↦ rw (g, sym (e.sound b) ∙ g)
       ]
 

@@ -23,8 +23,8 @@ pub record Same (s t : Store) : Type 0 where
   pub at : (b : ℕ) → b < s.size → s.at b ≡ t.at b
   pub sound : (b : ℕ) → s.sound b ≡ t.sound b
 
--- all that a read can tell: as many blocks, the same ones defective, and the same bytes in each that is not
+-- all that a read can tell: as many blocks, the same ones defective, and the same bytes in each block that is not
 pub record ReadAlike (s t : Store) : Type 0 where
   pub size : s.size ≡ t.size
   pub sound : (b : ℕ) → s.sound b ≡ t.sound b
-  pub at : (b : ℕ) → s.sound b ≡ true → s.at b ≡ t.at b
+  pub at : (b : ℕ) → b < s.size → s.sound b ≡ true → s.at b ≡ t.at b

@@ -2,7 +2,7 @@
 use Rattle.std.proofs.Common.{◌≡◌, ℕ, true, false, cond, eqb, ltb, List, [], ◌∷◌, length, is_ok, Ok, Err, sym, refl, ap, ◌∙◌, subst, inl, inr}
 use Rattle.std.proofs.lemmas.Bool.{cases_Bool, cond-true as cond_yes, cond-false as cond_no}
 use Rattle.device.specs.Answers.{answer, checked}
-use Rattle.device.specs.Store.{Store, Lawful, Same, ReadAlike, put}
+use Rattle.device.specs.Store.{Store, Same, ReadAlike, put}
 use Rattle.device.proofs.Outcomes.{admitted as passed}
 use Rattle.tier.specs.Models.{Model}
 use Rattle.pile.specs.declared.faults.PileFault.TheVariants.{Full}
@@ -25,11 +25,13 @@ module _ (d e : Bare) (tw : Twin d e) where
       ap (λ r. wrapped r (cond (ltb (length d.trail) 4000000000) (Ok tt) (Err Full))) (same_answer b n)
       ∙ ap (λ t. wrapped (answer e.store b n) (cond (ltb (length t) 4000000000) (Ok tt) (Err Full))) tw.trail
 
-  usable : (b n : ℕ) → is_ok (bare_admitted d b n) ≡ true → d.store.sound b ≡ true
-  usable b n h = (passed d.store b n (wrapped_ok (answer d.store b n) (cond (ltb (length d.trail) 4000000000) (Ok tt) (Err Full)) h)).usable
+  held_alike : (b n : ℕ) → is_ok (bare_admitted d b n) ≡ true → d.store.at b ≡ e.store.at b
+  held_alike b n h =
+      let k = passed d.store b n (wrapped_ok (answer d.store b n) (cond (ltb (length d.trail) 4000000000) (Ok tt) (Err Full)) h) in
+      tw.store.at b k.there k.usable
 
   put_same : (b : ℕ) (v : List ℕ) → ReadAlike (put d.store b v) (put e.store b v)
-  put_same b v = record { size = tw.store.size; at = λ n h. ap (λ x. cond (eqb n b) v x) (tw.store.at n h); sound = tw.store.sound }
+  put_same b v = record { size = tw.store.size; at = λ n h k. ap (λ x. cond (eqb n b) v x) (tw.store.at n h k); sound = tw.store.sound }
 
   pub twin_step : (c : Call) → Twin (bare_stepped c d) (bare_stepped c e) × (bare_answered c d ≡ bare_answered c e)
   twin_step sync = (tw, refl)
@@ -44,7 +46,7 @@ module _ (d e : Bare) (tw : Twin d e) where
             subst (λ x. Twin x (bare_stepped (read b v) e)) (sym (cond_yes (is_ok (bare_admitted d b (length v))) record { store = d.store; trail = b ∷ d.trail } d h))
                 (subst (λ x. Twin record { store = d.store; trail = b ∷ d.trail } x) (sym (cond_yes (is_ok (bare_admitted e b (length v))) record { store = e.store; trail = b ∷ e.trail } e h'))
                 (record { store = tw.store; trail = ap (λ t. b ∷ t) tw.trail })),
-            λ i. record { result = q i; buffer = (cond_yes (is_ok (bare_admitted d b (length v))) (d.store.at b) v h ∙ (tw.store.at b (usable b (length v) h) ∙ sym (cond_yes (is_ok (bare_admitted e b (length v))) (e.store.at b) v h'))) i },
+            λ i. record { result = q i; buffer = (cond_yes (is_ok (bare_admitted d b (length v))) (d.store.at b) v h ∙ (held_alike b (length v) h ∙ sym (cond_yes (is_ok (bare_admitted e b (length v))) (e.store.at b) v h'))) i },
           )
 
       left : is_ok (bare_admitted d b (length v)) ≡ false → Twin (bare_stepped (read b v) d) (bare_stepped (read b v) e) × (bare_answered (read b v) d ≡ bare_answered (read b v) e)
@@ -94,5 +96,5 @@ pub alike : (m n : Model) → Mountable m → Mountable n → ReadAlike m.store 
 alike m n f g h cs = transparent m f cs ∙ (twin_answers cs (bare m.store) (bare n.store) (mounted_twins m.store n.store h) ∙ sym (transparent n g cs))
 
 -- stores that are the same read alike
-pub same_reads : (s t : Store) → Lawful s → Same s t → ReadAlike s t
-same_reads s t l e = record { size = e.size; sound = e.sound; at = λ b h. e.at b (l.there b h) }
+pub same_reads : (s t : Store) → Same s t → ReadAlike s t
+same_reads s t e = record { size = e.size; sound = e.sound; at = λ b h k. e.at b h }

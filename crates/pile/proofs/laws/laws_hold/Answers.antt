@@ -4,4 +4,4 @@ use Rattle.pile.proofs.Twins.{same_reads}
 use Rattle.pile.proofs.laws.laws_hold.Goals as goal
 
 pub returns : goal.returns
-returns c = record { each = promised; both = λ m n f g same. paired m n f g (same_reads m.store n.store f.lawful.store same) }
+returns c = record { each = promised; both = λ m n f g same. paired m n f g (same_reads m.store n.store same) }
