@@ -28,10 +28,6 @@ def antt_files():
     return sorted(p for p in ROOT.glob('crates/*/*/**/*.antt') if p.parts[2] in ('specs', 'proofs'))
 
 
-def is_answer(path):
-    return path.name in ('Answers.antt', 'Invariants.antt', 'Proof.antt')
-
-
 def own_names():
     names = {}
     for path in antt_files():
