@@ -8,20 +8,21 @@ use device::{Archive, Image};
 use layers::{RestoreFault, restore};
 
 // Restores an archive onto an image, block by block.
-fn restore_blocks(source: &Archive, image: &mut [u8]) -> Result<u32, RestoreFault>
-    ensures answer { result ≡ answered source.now.bytes.now image.old }
-    ensures blocks { seen image.new ≡ restored (seen source.now.bytes.now) (seen image.old) }
+fn restore_blocks(archive: &[u8], image: &mut [u8]) -> Result<u32, RestoreFault>
+    ensures answer { result ≡ answered archive.now image.old }
+    ensures blocks { seen image.new ≡ restored (seen archive.now) (seen image.old) }
 {
+    let source = Archive::new(archive);
     let mut device = Image::new(image);
-    restore(source, &mut device)
+    restore(&source, &mut device)
 }
 
 // Restores an archive onto an image, of which the blocks tell the bytes.
-fn restore_bytes(source: &Archive, image: &mut [u8]) -> Result<u32, RestoreFault>
-    ensures answer { result ≡ answered source.now.bytes.now image.old }
-    ensures image { image.new ≡ refilled source.now.bytes.now image.old }
+fn restore_bytes(archive: &[u8], image: &mut [u8]) -> Result<u32, RestoreFault>
+    ensures answer { result ≡ answered archive.now image.old }
+    ensures image { image.new ≡ refilled archive.now image.old }
 {
-    restore_blocks(source, image)
+    restore_blocks(archive, image)
 }
 
 // Restores an archive onto an image, and tells how many blocks there were.
@@ -29,6 +30,5 @@ pub fn restore_image(archive: &[u8], image: &mut [u8]) -> Result<u32, RestoreFau
     ensures answer { result ≡ answered archive.now image.old }
     ensures image { image.new ≡ refilled archive.now image.old }
 {
-    let source = Archive::new(archive);
-    restore_bytes(&source, image)
+    restore_bytes(archive, image)
 }

@@ -5,6 +5,7 @@ ghost use Rattle.std.specs.Vec.{vec_items as items};
 ghost use Rattle.restoring.specs.declared.stack.StackFault.TheVariants.{Unit as OfUnit, Defects as OfDefects, Restore as OfRestore};
 ghost use Rattle.layers.specs.declared.defects.DefectFault.TheVariants.{Memory};
 ghost use Rattle.device.specs.Bytes.{of_bytes as seen};
+ghost use Rattle.device.specs.Loans.{lent, owned};
 ghost use Rattle.layers.specs.Defects.{had_room as roomy};
 ghost use Rattle.restoring.specs.Stacks.{number_of as numbered, list_answer as all_answer, listed_answer, stack_answer, memory_or, blocks_after, first_after, second_after, BlocksTell};
 
@@ -139,40 +140,59 @@ fn restore_striped<S: Source, D: Device, E: Device>(
     restore_on(heap, source, &mut stripe, unit, numbers)
 }
 
+// Restores an archive onto two images, striped; each still stands over the slice that it stood over.
+fn restore_devices(
+    heap: Global,
+    source: &Archive,
+    first: &mut Image,
+    second: &mut Image,
+    unit: u32,
+    numbers: &[u32],
+) -> Result<u32, StackFault>
+    ensures answer { result ≡ memory_or result (stack_answer unit numbers.now (seen source.now.bytes.now) (seen first.old.bytes.now) (seen second.old.bytes.now)) }
+    ensures first { (seen first.new.bytes.now).at ≡ first_after result unit (seen source.now.bytes.now) (seen first.old.bytes.now) }
+    ensures second { (seen second.new.bytes.now).at ≡ second_after result unit (seen source.now.bytes.now) (seen second.old.bytes.now) }
+    ensures first_loans { lent first.new.bytes.ghost_name owned ≡ lent first.old.bytes.ghost_name owned }
+    ensures second_loans { lent second.new.bytes.ghost_name owned ≡ lent second.old.bytes.ghost_name owned }
+{
+    restore_striped(heap, source, first, second, unit, numbers)
+}
+
 // Restores an archive onto two striped images, block by block.
 fn restore_image_blocks(
     heap: Global,
-    source: &Archive,
+    archive: &[u8],
     first: &mut [u8],
     second: &mut [u8],
     unit: u32,
     numbers: &[u32],
 ) -> Result<u32, StackFault>
-    ensures answer { result ≡ memory_or result (stack_answer unit numbers.now (seen source.now.bytes.now) (seen first.old) (seen second.old)) }
-    ensures first { (seen first.new).at ≡ first_after result unit (seen source.now.bytes.now) (seen first.old) }
-    ensures second { (seen second.new).at ≡ second_after result unit (seen source.now.bytes.now) (seen second.old) }
+    ensures answer { result ≡ memory_or result (stack_answer unit numbers.now (seen archive.now) (seen first.old) (seen second.old)) }
+    ensures first { (seen first.new).at ≡ first_after result unit (seen archive.now) (seen first.old) }
+    ensures second { (seen second.new).at ≡ second_after result unit (seen archive.now) (seen second.old) }
 {
+    let source = Archive::new(archive);
     let mut a = Image::new(first);
     let mut b = Image::new(second);
-    restore_striped(heap, source, &mut a, &mut b, unit, numbers)
+    restore_devices(heap, &source, &mut a, &mut b, unit, numbers)
 }
 
 // Restores an archive onto two striped images, of which the blocks tell the bytes.
 fn restore_image_bytes(
     heap: Global,
-    source: &Archive,
+    archive: &[u8],
     first: &mut [u8],
     second: &mut [u8],
     unit: u32,
     numbers: &[u32],
 ) -> Result<u32, StackFault>
-    ensures answer { result ≡ memory_or result (stack_answer unit numbers.now (seen source.now.bytes.now) (seen first.old) (seen second.old)) }
-    ensures first { (seen first.new).at ≡ first_after result unit (seen source.now.bytes.now) (seen first.old) }
-    ensures second { (seen second.new).at ≡ second_after result unit (seen source.now.bytes.now) (seen second.old) }
+    ensures answer { result ≡ memory_or result (stack_answer unit numbers.now (seen archive.now) (seen first.old) (seen second.old)) }
+    ensures first { (seen first.new).at ≡ first_after result unit (seen archive.now) (seen first.old) }
+    ensures second { (seen second.new).at ≡ second_after result unit (seen archive.now) (seen second.old) }
     ensures refused { is_ok result ≡ false → (first.new ≡ first.old) × (second.new ≡ second.old) }
     ensures told { BlocksTell }
 {
-    restore_image_blocks(heap, source, first, second, unit, numbers)
+    restore_image_blocks(heap, archive, first, second, unit, numbers)
 }
 
 // Restores an archive onto two striped images, some blocks of the stripe being defective, and tells how many blocks there were.
@@ -191,6 +211,5 @@ pub fn restore_images(
     ensures refused { is_ok result ≡ false → (first.new ≡ first.old) × (second.new ≡ second.old) }
     ensures told { BlocksTell }
 {
-    let source = Archive::new(archive);
-    restore_image_bytes(heap, &source, first, second, unit, numbers)
+    restore_image_bytes(heap, archive, first, second, unit, numbers)
 }

@@ -60,6 +60,12 @@ impl Shelf {
         ensures passed { (frames : List Frame) → passed self.now frames result ≡ [] }
         ensures coming { (frames : List Frame) → coming self.now frames result ≡ entries self.now frames }
     {
+        self.front()
+    }
+
+    fn front(&self) -> Option<usize>
+        ensures { result ≡ first (order self.now) }
+    {
         self.places.first(ORDER)
     }
 
@@ -78,6 +84,13 @@ impl Shelf {
         ensures standing { Standing self.now result }
         ensures passed { (frames : List Frame) → passed self.now frames result ≡ above self.now frames x ++ held self.now frames x ∷ [] }
         ensures coming { (frames : List Frame) → coming self.now frames result ≡ below self.now frames x }
+    {
+        self.behind(x)
+    }
+
+    fn behind(&self, x: usize) -> Option<usize>
+        requires { (x < 16) × (member x (order self.now) ≡ true) }
+        ensures { result ≡ first (after x (order self.now)) }
     {
         self.places.next(x)
     }

@@ -5,5 +5,5 @@ pub returns : goal.returns
 returns c =
     record {
       answer = c.restore_blocks.ensures.answer;
-      image = refilled c.args.source.now.bytes.now c.args.image.now c.restore_blocks.new.image c.restore_blocks.ensures.blocks;
+      image = refilled c.args.archive.now c.args.image.now c.restore_blocks.new.image c.restore_blocks.ensures.blocks;
     }

@@ -13,9 +13,9 @@ returns c =
       second = c.restore_image_blocks.ensures.second;
       refused = λ e. (
         told c.restore_image_blocks.new.first c.args.first.now (λ b. ap (λ f. f b) (c.restore_image_blocks.ensures.first ∙ refused_side c.restore_image_blocks.result
-            (first_block c.args.unit) (of_bytes c.args.source.now.bytes.now) (of_bytes c.args.first.now) e)),
+            (first_block c.args.unit) (of_bytes c.args.archive.now) (of_bytes c.args.first.now) e)),
         told c.restore_image_blocks.new.second c.args.second.now (λ b. ap (λ f. f b) (c.restore_image_blocks.ensures.second ∙ refused_side c.restore_image_blocks.result
-            (second_block c.args.unit) (of_bytes c.args.source.now.bytes.now) (of_bytes c.args.second.now) e)),
+            (second_block c.args.unit) (of_bytes c.args.archive.now) (of_bytes c.args.second.now) e)),
       );
       told = blocks_tell;
     }

@@ -5,5 +5,5 @@ use Rattle.row.proofs.shelf.Shelf.first.Goals as goal
 
 pub returns : goal.returns
 returns c =
-    let w = λ (fs : List Frame). first_walk c.args.self.now fs c.first.result c.first.ensures in
-    record { slot = c.first.ensures; standing = (w []).0; passed = λ fs. (w fs).1; coming = λ fs. (w fs).2 }
+    let w = λ (fs : List Frame). first_walk c.args.self.now fs c.front.result c.front.ensures in
+    record { slot = c.front.ensures; standing = (w []).0; passed = λ fs. (w fs).1; coming = λ fs. (w fs).2 }
