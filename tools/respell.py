@@ -67,7 +67,7 @@ def main():
     taken = set(names)
     for name, new in sorted(mapping.items()):
         if new in taken:
-            print(f'falls together: {name} -> {new}: {[str(p) for p in names[name]]} {[str(p) for p in names[new]]}')
+            print(f'falls together: {name} -> {new}: {[str(p) for p in names.get(name, [])]} {[str(p) for p in names[new]]}')
     by_new = {}
     for name, new in mapping.items():
         by_new.setdefault(new, []).append(name)
@@ -76,7 +76,7 @@ def main():
             print(f'two names: {olds} -> {new}')
     if '--list' in sys.argv:
         for name, new in sorted(mapping.items()):
-            print(name, new, sorted({p.parts[1] for p in names[name]}))
+            print(name, new, sorted({p.parts[1] for p in names.get(name, [])}))
         return
     changed = 0
     for path in antt_files():
