@@ -1,6 +1,7 @@
 -- Restoring under a defect list: how the answers of listing and restoring make the whole.
 use Rattle.std.proofs.Common.{◌≡◌, ℕ, false, cond, List, [], is_ok, Ok, Err, Result, sym, refl, ap, ◌∙◌}
 use Rattle.device.specs.Loans.{Loans, listed}
+use Rattle.device.specs.Bytes.{of_bytes}
 use Rattle.device.specs.Store.{Store}
 use Rattle.layers.specs.declared.defects.DefectFault.{DefectFault}
 use Rattle.layers.specs.declared.defects.DefectFault.TheVariants.{NotGreater, Full, Memory}
@@ -10,7 +11,7 @@ use Rattle.restoring.specs.declared.stack.StackFault.TheVariants.{Defects as OfD
 use Rattle.layers.specs.Defects.{had_room, masked}
 use Rattle.layers.specs.Restores.{restore_answer, restored, copied}
 use Rattle.device.proofs.Told.{told}
-use Rattle.restoring.specs.Stacks.{list_answer, listed_answer, memory_or, then, wrapped, side_after, BlocksTell}
+use Rattle.restoring.specs.Stacks.{list_answer, listed_answer, memory_or, then, wrapped, BlocksTell}
 
 module _ (ns : List ℕ) (s d : Store) where
   -- the list was refused
@@ -41,11 +42,11 @@ module _ (ns : List ℕ) (s d : Store) where
 pub listed_over : (xs ys : List ℕ) (l k : Loans) → ◌≡◌ (listed xs l) (listed ys k) → l ≡ k
 listed_over xs ys l k h = cc
 
--- a refused restore leaves a side
-pub refused_side : (r : Result ℕ StackFault) (of : ℕ → ℕ) (s d : Store) → is_ok r ≡ false → side_after r of s d ≡ d.at
-refused_side r of s d e = rw e
+-- a refused restore leaves the bytes of both images
+pub refused_bytes : (r : Result ℕ StackFault) (f g : ℕ → List ℕ) (xs ys zs ws : List ℕ) → (of_bytes ys).at ≡ cond (is_ok r) f (of_bytes xs).at → (of_bytes ws).at ≡ cond (is_ok r) g (of_bytes zs).at
+    → is_ok r ≡ false → (ys ≡ xs) × (ws ≡ zs)
+refused_bytes r f g xs ys zs ws h k e = (told ys xs (λ b. ap (λ t. t b) (rw e at h)), told ws zs (λ b. ap (λ t. t b) (rw e at k)))
 
 -- equal blocks make equal bytes
 pub blocks_tell : BlocksTell
-unfolding BlocksTell
 blocks_tell xs ys e = told xs ys (λ b. ap (λ f. f b) e)
