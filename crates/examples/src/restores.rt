@@ -94,7 +94,8 @@ pub fn onto_stripe(rt: &HostRuntime) -> anyhow::Result<()> {
                 "stripe of unit {unit}, defect {defect}: restored {blocks}, blocks {a} {b} and {c} {d}"
             )?,
             Err(fault) => println!(rt;
-                "stripe of unit {unit}, defect {defect}: refused {}, blocks {a} {b} and {c} {d}", fault.number()
+                "stripe of unit {unit}, defect {defect}: refused {}, blocks {a} {b} and {c} {d}",
+                fault.number()
             )?,
         }
     }
