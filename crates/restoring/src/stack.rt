@@ -165,6 +165,7 @@ fn restore_image_blocks(
 }
 
 // Restores an archive onto two striped images, of which the blocks tell the bytes.
+// Apart from the public function, which needs no proof file then: the search does not close `refused` and `told`.
 fn restore_image_bytes(
     heap: Global,
     archive: &[u8],
