@@ -5,4 +5,3 @@ use Rattle.restoring.specs.Stacks.{list_answer}
 -- what is left to list gives the answer
 abbrev pub Left : List ℕ → ℕ → Type 0
 Left ns i = list_answer [] ns ≡ list_answer (take i ns) (drop i ns)
-
