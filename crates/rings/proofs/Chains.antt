@@ -40,10 +40,10 @@ pub walk_end : (fuel : ℕ) (n : List ℕ) (i : ℕ) → 16 ≤ i → walk fuel 
 walk_end zero n i h = refl
 walk_end (suc k) n i h = rw (le-ltb i 16 h)
 
-walk_slot : (fuel : ℕ) (n : List ℕ) (i : ℕ) → i < 16 → walk (suc fuel) n i ≡ i ∷ walk fuel n (get_or n i 0)
+pub walk_slot : (fuel : ℕ) (n : List ℕ) (i : ℕ) → i < 16 → walk (suc fuel) n i ≡ i ∷ walk fuel n (get_or n i 0)
 walk_slot fuel n i h = rw (lt-ltb i 16 h)
 
-walk_chain : (fuel : ℕ) (n p : List ℕ) (c : ℕ) (xs : List ℕ) (e : ℕ) → Chain n p c xs e → 16 ≤ e → length xs ≤ fuel → walk fuel n (get_or n c 0) ≡ xs
+pub walk_chain : (fuel : ℕ) (n p : List ℕ) (c : ℕ) (xs : List ℕ) (e : ℕ) → Chain n p c xs e → 16 ≤ e → length xs ≤ fuel → walk fuel n (get_or n c 0) ≡ xs
 walk_chain fuel n p c [] e h big few = walk_end fuel n (get_or n c 0) (let q = h.0 in omega arith)
 walk_chain zero n p c (x ∷ xs) e h big few = absurd (omega arith)
 walk_chain (suc k) n p c (x ∷ xs) e h big few =

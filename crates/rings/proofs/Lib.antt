@@ -4,3 +4,4 @@ pub mod Chains
 pub mod Empty
 pub mod Updates
 pub mod Filing
+pub mod Walks

@@ -4,3 +4,5 @@ pub mod Links
 pub mod Models
 pub mod Buckets
 pub mod Keys
+pub mod Walks
+pub mod Left

@@ -10,6 +10,15 @@ pub struct Link {
     pub prev: usize,
 }
 
+// The place behind a place.
+#[tactic(auto, using(crate::proofs::Places::written))]
+pub fn behind(links: &[Link; 32], x: usize) -> usize
+    requires { x < 32 }
+    ensures { result ≡ slice_index (nexts links.now) x }
+{
+    links[x].next
+}
+
 // Links the neighbours of `x` to one another, and `x` to itself.
 #[tactic(auto, using(crate::proofs::Places::written))]
 pub fn take_out(links: &mut [Link; 32], x: usize)
