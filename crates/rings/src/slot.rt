@@ -1,5 +1,5 @@
 // Slots: what stands in rings.
-ghost use Rattle.std.specs.Prelude.{◌≡◌, ℕ, ◌<◌, length, slice_index};
+ghost use Rattle.std.specs.Prelude.{◌≡◌, ℕ, ◌<◌, length, slice_index_or};
 ghost use Rattle.rings.specs.Links.{slot_at as slotted};
 
 use std::marker::Model;
@@ -40,7 +40,7 @@ impl Slot {
     // Every slot, in the order of their numbers.
     pub fn all() -> [Slot; 16]
         ensures wide { length result ≡ 16 }
-        ensures own { (i : ℕ) → i < 16 → slice_index result i ≡ i }
+        ensures own { (i d : ℕ) → i < 16 → slice_index_or result i d ≡ i }
     {
         std::array::from_fn(
             |index|

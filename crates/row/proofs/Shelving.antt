@@ -21,7 +21,7 @@ agreed s = record { listed = s.listed; spare = s.spare; single = s.single; small
 never : {A : Type 0} → (o : Option ℕ) → o ≡ None → is_some o ≡ true → A
 never o e h = absurd (both_ways (is_some o) (ap is_some e) h)
 
-module _ (p p' : Rings) (i i' : Index) (x : ℕ) (low : x < 16) (moved : (q : ℕ) → q < 16 → ring p' q ≡ fronted x 1 q (ring p q)) (keys : (y : ℕ) → y < 16 → key_of i' y ≡ cond (eqb y x) None (key_of i y)) where
+module _ (p p' : Rings) (i i' : Index) (x : ℕ) (moved : (q : ℕ) → q < 16 → ring p' q ≡ fronted x 1 q (ring p q)) (keys : (y : ℕ) → y < 16 → key_of i' y ≡ cond (eqb y x) None (key_of i y)) where
   here : (y : ℕ) → y < 16 → eqb y x ≡ true → key_of i' y ≡ None
   here y ly k = keys y ly ∙ rw k
 
@@ -72,7 +72,7 @@ module _ (p p' : Rings) (i i' : Index) (x : ℕ) (low : x < 16) (moved : (q : �
   released n m k =
       record { listed = released_listed k.listed; spare = released_spare k.spare; single = released_single k.single; small = released_small k.small; counted = (released_count n m k.counted).1 }
 
-module _ (p p' : Rings) (i i' : Index) (x b : ℕ) (low : x < 16) (fits : b < 2 ^ 32) (moved : (q : ℕ) → q < 16 → ring p' q ≡ fronted x 0 q (ring p q)) (keys : (y : ℕ) → y < 16 → key_of i' y ≡ cond (eqb y x) (Some b) (key_of i y)) (fresh : (y : ℕ) → y < 16 → key_of i y ≡ Some b → ⊥) where
+module _ (p p' : Rings) (i i' : Index) (x b : ℕ) (fits : b < 2 ^ 32) (moved : (q : ℕ) → q < 16 → ring p' q ≡ fronted x 0 q (ring p q)) (keys : (y : ℕ) → y < 16 → key_of i' y ≡ cond (eqb y x) (Some b) (key_of i y)) (fresh : (y : ℕ) → y < 16 → key_of i y ≡ Some b → ⊥) where
   new_here : (y : ℕ) → y < 16 → eqb y x ≡ true → key_of i' y ≡ Some b
   new_here y ly k = keys y ly ∙ rw k
 
@@ -144,6 +144,9 @@ freed_more p p' x moved f y ly =
       | inl h ↦ let g = ltb-true y x h in h ∙ sym (lt-ltb y (x + 1) (omega arith))
       | inr h ↦ let g = ltb-false y x h in h ∙ sym (le-ltb y (x + 1) (grind arith))
     ]
+
+pub freed_none : (p p' : Rings) (x : ℕ) → ((q : ℕ) → q < 16 → ring p' q ≡ fronted x 1 q (ring p q)) → ring p 0 ≡ [] → ring p' 0 ≡ []
+freed_none p p' x moved e = moved 0 (omega arith) ∙ ap (λ xs. without x xs) e
 
 pub first_some : (xs : List ℕ) → (xs ≡ [] → ⊥) → IsSome (first xs)
 first_some [] ne = absurd (ne refl)

@@ -10,6 +10,7 @@ use crate::capacity::{CapacityFault, check};
 use crate::frame::{Frame, Mark, Tag};
 use crate::row::Row;
 use crate::shelf::Shelf;
+use rings::Slot;
 
 impl Row {
     // A row of no entries and capacity 1.
@@ -34,20 +35,20 @@ impl Row {
     }
 
     // Copies the entry in a slot into the buffer, and removes it.
-    pub fn take_slot(&mut self, slot: usize, buffer: &mut [u8]) -> Tag
+    pub fn take_slot(&mut self, slot: Slot, buffer: &mut [u8]) -> Tag
         requires { (Stands self.old slot) × (length buffer.old ≡ 256) }
         ensures answer { result ≡ told (held self.old slot) }
         ensures buffer { buffer.new ≡ (held self.old slot).bytes }
         ensures after { model self.new ≡ holding (without (held self.old slot).number (entries self.old)) (model self.old) }
     {
         let tag = self.tag(slot);
-        self.frames[slot].copy_out(buffer);
+        self.frames[slot.index()].copy_out(buffer);
         self.drop_slot(slot);
         tag
     }
 
     // Removes the entry in a slot.
-    pub fn drop_slot(&mut self, slot: usize)
+    pub fn drop_slot(&mut self, slot: Slot)
         requires { Stands self.old slot }
         ensures { model self.new ≡ holding (without (held self.old slot).number (entries self.old)) (model self.old) }
     {
@@ -90,7 +91,7 @@ impl Row {
     }
 
     // The slot of the last entry.
-    fn last_slot(&self) -> Option<usize>
+    fn last_slot(&self) -> Option<Slot>
         ensures { MatchOption result (entries self.now ≡ []) (λ x. Stands self.now x × (last (entries self.now) ≡ Some (held self.now x)) × (without (held self.now x).number (entries self.now) ≡ front (entries self.now))) }
     {
         self.shelf.last()
@@ -104,11 +105,11 @@ impl Row {
         ensures { model self.new ≡ holding (record { number = number; bytes = bytes.now; mark = mark } ∷ entries self.old) (model self.old) }
     {
         let slot = self.shelf.admit(number);
-        self.frames[slot].fill(bytes, mark);
+        self.frames[slot.index()].fill(bytes, mark);
     }
 
     // Marks the entry in a slot saved.
-    pub fn mark_saved(&mut self, slot: usize)
+    pub fn mark_saved(&mut self, slot: Slot)
         requires { Stands self.old slot }
         ensures after { model self.new ≡ holding (above self.old slot ++ save (held self.old slot) ∷ below self.old slot) (model self.old) }
         ensures stands { Stands self.new slot }
@@ -116,6 +117,6 @@ impl Row {
         ensures above { above self.new slot ≡ above self.old slot }
         ensures below { below self.new slot ≡ below self.old slot }
     {
-        self.frames[slot].save();
+        self.frames[slot.index()].save();
     }
 }

@@ -6,6 +6,7 @@ ghost use Rattle.row.specs.Rows.{model, entries, Stands, Standing, held, above, 
 
 use crate::frame::Tag;
 use crate::row::Row;
+use rings::Slot;
 
 impl Row {
     // How many entries there can be.
@@ -23,33 +24,33 @@ impl Row {
     }
 
     // The slot of the entry that names a block, by one look into the index.
-    pub fn find(&self, number: u32) -> Option<usize>
+    pub fn find(&self, number: u32) -> Option<Slot>
         ensures { MatchOption result ((sought number (entries self.now) ≡ None) × (without number (entries self.now) ≡ entries self.now)) (λ x. Stands self.now x × ((held self.now x).number ≡ number) × (sought number (entries self.now) ≡ Some (held self.now x))) }
     {
         self.shelf.find(number)
     }
 
     // The number and the mark of the entry in a slot.
-    pub fn tag(&self, slot: usize) -> Tag
+    pub fn tag(&self, slot: Slot) -> Tag
         requires { Stands self.now slot }
         ensures { result ≡ told (held self.now slot) }
     {
         Tag {
             number: self.shelf.number(slot),
-            mark: self.frames[slot].mark,
+            mark: self.frames[slot.index()].mark,
         }
     }
 
     // The bytes of the entry in a slot.
-    pub fn bytes(&self, slot: usize) -> &[u8]
+    pub fn bytes(&self, slot: Slot) -> &[u8]
         requires { Stands self.now slot }
         ensures { result.now ≡ (held self.now slot).bytes }
     {
-        &self.frames[slot].bytes
+        &self.frames[slot.index()].bytes
     }
 
     // The slot of the first entry.
-    pub fn first_slot(&self) -> Option<usize>
+    pub fn first_slot(&self) -> Option<Slot>
         ensures standing { Standing self.now result }
         ensures passed { passed self.now result ≡ [] }
         ensures coming { coming self.now result ≡ entries self.now }
@@ -58,7 +59,7 @@ impl Row {
     }
 
     // The slot of the entry behind the one in a slot.
-    pub fn next_slot(&self, slot: usize) -> Option<usize>
+    pub fn next_slot(&self, slot: Slot) -> Option<Slot>
         requires { Stands self.now slot }
         ensures standing { Standing self.now result }
         ensures passed { passed self.now result ≡ above self.now slot ++ held self.now slot ∷ [] }

@@ -13,7 +13,7 @@ admit-slot-requires c =
 pub invariant_of-self-clause-whole : goal.invariant_of-self-clause-whole
 invariant_of-self-clause-whole c =
     let r = c.args.self.now in
-    whole_set r.frames _ c.fill.new.self r.wide c.admit-slot.ensures.slot.0 (ap (λ f. length f.bytes) c.fill.ensures ∙ c.requires.whole) r.whole
+    rw c.index.ensures.same (whole_set r.frames _ c.fill.new.self r.wide c.admit-slot.ensures.slot.0 (ap (λ f. length f.bytes) c.fill.ensures ∙ c.requires.whole) r.whole)
 
 pub invariant_of-self-clause-room : goal.invariant_of-self-clause-room
 invariant_of-self-clause-room c =
