@@ -72,15 +72,7 @@ impl Row {
     pub fn entry(&self, place: u32) -> Option<Tag>
         ensures { result ≡ option_map told (placed place (entries self.now)) }
     {
-        let mut left = place;
-        let mut at = self.first_slot();
-        while let Some(slot) = at {
-            if left == 1 {
-                return Some(self.tag(slot));
-            }
-            left = left.saturating_sub(1);
-            at = self.next_slot(slot);
-        }
-        None
+        let slot = self.shelf.at(place)?;
+        Some(self.tag(slot))
     }
 }

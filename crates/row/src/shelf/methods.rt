@@ -1,9 +1,10 @@
 // What a shelf does.
 ghost use Rattle.std.specs.Prelude.{◌≡◌, ℕ, ◌<◌, ◌≤◌, true, false, List, [], ◌∷◌, ◌++◌, length, if◌then◌else◌, Some, None, MatchOption, ◌≢◌, nat_eq, slice_set};
+ghost use Rattle.std.specs.Option.{option_map};
 ghost use Rattle.rings.specs.Slots.{member, without as unlisted, first, last, after};
 ghost use Rattle.rings.specs.Models.{ring};
 ghost use Rattle.row.specs.declared.frame.Frame.{Frame};
-ghost use Rattle.row.specs.Entries.{without};
+ghost use Rattle.row.specs.Entries.{without, at_place as placed};
 ghost use Rattle.row.specs.Held.{entries_in as entries, entry_in as held, above_in as above, below_in as below, passed_in as passed, coming_in as coming, OnIf as Standing, Found, Last};
 ghost use Rattle.row.specs.Orders.{order, key};
 
@@ -95,6 +96,15 @@ impl Shelf {
         ensures { result ≡ first (after x (order self.now)) }
     {
         self.places.next(x)
+    }
+
+    // The slot at a place in order, counted from 1.
+    pub fn at(&self, place: u32) -> Option<Slot>
+        ensures standing { Standing self.now result }
+        ensures entries { (frames : List Frame) → placed place (entries self.now frames) ≡ option_map (held self.now frames) result }
+    {
+        let passed = place.checked_sub(1)?;
+        self.places.slots(ORDER).nth(passed as usize)
     }
 
     // Takes the number of a slot away.
