@@ -1,13 +1,14 @@
 -- The number that each slot is filed under, after an insertion and a removal, and what a search of its bucket finds.
-use Rattle.std.proofs.Common.{◌≡◌, ℕ, ◌+◌, ◌<◌, true, false, cond, eqb, List, [], ◌∷◌, length, get_or, set, IfSome, Some, None, Option, sym, refl, ap, ◌∙◌, subst, inl, inr, arith, MatchOption}
+use Rattle.std.proofs.Common.{◌≡◌, ℕ, ◌+◌, ◌<◌, true, false, cond, eqb, List, [], ◌∷◌, length, get_or, set, Some, None, Option, sym, refl, ap, ◌∙◌, inl, inr, arith, MatchOption}
 use Rattle.std.proofs.lemmas.List.{get_or-set_same, get_or-set_other}
-use Rattle.std.proofs.lemmas.Bool.{cases_Bool, or_left, or_right, eqb-true, eqb-false, eq-eqb, ne_eqb, true≢false}
+use Rattle.std.proofs.lemmas.Bool.{cases_Bool, or_left, or_right, eqb-true, eqb-false, eq-eqb, true≢false}
 use Rattle.rings.specs.declared.rings.Rings.{Rings}
-use Rattle.rings.specs.Slots.{member, without, distinct, first, after}
+use Rattle.rings.specs.Slots.{member, without, distinct}
+use Rattle.rings.specs.Places.{nexts, prevs}
 use Rattle.rings.specs.Models.{ring, fronted}
-use Rattle.rings.specs.Buckets.{bucket, Filed, key_in, sought, from}
+use Rattle.rings.specs.Buckets.{bucket, Filed, key_in, sought}
 use Rattle.std.specs.List.{AllByRecursion as All}
-use Rattle.rings.proofs.Lists.{member_without, member_after, after_first}
+use Rattle.rings.proofs.Lists.{member_without}
 use Rattle.rings.proofs.Chains.{chain_slots, closed_chain, closed_distinct}
 
 pub bucket_few : (b : ℕ) → bucket b < 16
@@ -78,41 +79,15 @@ slot_low x (y ∷ ys) a m =
     ]
 
 pub ring_slots : (s : Rings) (r : ℕ) → r < 16 → All (λ y. y < 16) (ring s r)
-ring_slots s r h = chain_slots s.next s.prev (16 + r) (ring s r) (16 + r) (closed_chain s.next s.prev r (s.closed r h))
+ring_slots s r h = chain_slots (nexts s.links) (prevs s.links) (16 + r) (ring s r) (16 + r) (closed_chain (nexts s.links) (prevs s.links) r (s.closed r h))
 
 pub ring_low : (s : Rings) (x r : ℕ) → r < 16 → member x (ring s r) ≡ true → x < 16
 ring_low s x r h m = slot_low x (ring s r) (ring_slots s r h) m
 
 pub ring_distinct : (s : Rings) (r : ℕ) → r < 16 → distinct (ring s r) ≡ true
-ring_distinct s r h = closed_distinct s.next s.prev r (s.closed r h)
+ring_distinct s r h = closed_distinct (nexts s.links) (prevs s.links) r (s.closed r h)
 
--- a search along a chain
-pub from_first : (xs : List ℕ) → from xs (first xs) ≡ xs
-from_first [] = refl
-from_first (x ∷ xs) = rw (eq-eqb x x refl)
-
-pub from_next : (x : ℕ) (xs : List ℕ) → distinct xs ≡ true → from xs (first (after x xs)) ≡ after x xs
-from_next x xs d = go (after x xs) refl
-  where
-    go : (ys : List ℕ) → after x xs ≡ ys → from xs (first ys) ≡ ys
-    go [] e = refl
-    go (y ∷ ys) e = ap (λ zs. y ∷ zs) (after_first x y xs ys d e)
-
--- where a search stands: at a slot of the chain, or past it
-abbrev pub On : List ℕ → Option ℕ → Type 0
-On xs at = IfSome at (λ x. (x < 16) × (member x xs ≡ true))
-
-pub on_first : (xs : List ℕ) → All (λ y. y < 16) xs → On xs (first xs)
-on_first [] a = tt
-on_first (x ∷ xs) a = (a.0, or_left (eqb x x) (member x xs) (eq-eqb x x refl))
-
-pub on_next : (x : ℕ) (xs : List ℕ) → All (λ y. y < 16) xs → On xs (first (after x xs))
-on_next x xs a = go (after x xs) refl
-  where
-    go : (ys : List ℕ) → after x xs ≡ ys → On xs (first ys)
-    go [] e = tt
-    go (y ∷ ys) e = let m = member_after x y xs ys e in (slot_low y xs a m, m)
-
+-- what a search of a chain finds
 pub sought_cases : (keys : List ℕ) (b : ℕ) (xs : List ℕ) → MatchOption (sought keys b xs) ((x : ℕ) → member x xs ≡ true → get_or keys x 0 ≡ b → ⊥) (λ x. (member x xs ≡ true) × (get_or keys x 0 ≡ b))
 sought_cases keys b [] = λ x m e. true≢false (sym m)
 sought_cases keys b (y ∷ ys) =
@@ -145,21 +120,3 @@ found_key s keys b r e = go r (rw e (sought_cases keys b (ring s (bucket b))))
           | inr m ↦ let q : ◌≡◌ {A = Option ℕ} None (Some b) = sym (e ∙ rw m) ∙ k in let z : ◌≡◌ {A = ℕ} 0 1 = cc in omega arith
         ]
     go (Some x) f = (ring_low s x (bucket b) (bucket_few b) f.0, key_is s keys x ∙ rw (f.1, f.0))
-
--- a search of a chain, begun and gone on by one slot
-pub seek_starts : (keys : List ℕ) (b : ℕ) (xs : List ℕ) (at : Option ℕ) → All (λ y. y < 16) xs → at ≡ first xs → (sought keys b xs ≡ sought keys b (from xs at)) × On xs at
-seek_starts keys b xs at a e = rw e (ap (λ ys. sought keys b ys) (sym (from_first xs)), on_first xs a)
-
-module _ (keys : List ℕ) (b : ℕ) (xs : List ℕ) (at at' : Option ℕ) (x : ℕ) (d : distinct xs ≡ true) (a : All (λ y. y < 16) xs) (on : On xs at) (e : at ≡ Some x) (next : member x xs ≡ true → at' ≡ first (after x xs)) where
-  here : member x xs ≡ true
-  here = let P : Option ℕ → Type 0 = On xs in (subst P e on).1
-
-  pub seek_goes : sought keys b xs ≡ sought keys b (from xs at) → (get_or keys x 0 ≡ b → ⊥) → (sought keys b xs ≡ sought keys b (from xs at')) × On xs at'
-  seek_goes inv ne =
-      rw (next here) (
-        inv ∙ (ap (λ o. sought keys b (from xs o)) e ∙ (rw (ne_eqb (get_or keys x 0) b ne) (ap (λ ys. sought keys b ys) (sym (from_next x xs d))))),
-        on_next x xs a,
-      )
-
-  pub seek_falls : length (from xs at') < length (from xs at)
-  seek_falls = rw (next here, from_next x xs d, e) (omega arith)

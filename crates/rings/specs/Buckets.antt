@@ -1,7 +1,8 @@
 -- The buckets of an index: sixteen rings, and the one that each number belongs to.
-use Rattle.std.specs.Prelude.{◌≡◌, ℕ, ◌*◌, ◌/◌, ◌%◌, ◌^◌, ◌<◌, true, cond, List, [], ◌∷◌, Some, None, Option, ◌==◌, slice_index}
+use Rattle.std.specs.Prelude.{◌≡◌, ℕ, ◌*◌, ◌/◌, ◌%◌, ◌^◌, ◌<◌, true, cond, List, Some, None, Option, ◌==◌, slice_index}
+use Rattle.std.specs.List.{find}
 use Rattle.rings.specs.declared.rings.Rings.{Rings}
-use Rattle.rings.specs.Slots.{member, after}
+use Rattle.rings.specs.Slots.{member}
 use Rattle.rings.specs.Models.{ring}
 
 -- the top four bits of a product of 32 bits
@@ -18,10 +19,4 @@ key_in s keys x = cond (member x (ring s (bucket (slice_index keys x)))) (Some (
 
 -- the first slot of a chain that has the number b
 abbrev pub sought : List ℕ → ℕ → List ℕ → Option ℕ
-sought keys b [] = None
-sought keys b (x ∷ xs) = cond (slice_index keys x == b) (Some x) (sought keys b xs)
-
--- what is left of a chain from a slot on
-abbrev pub from : List ℕ → Option ℕ → List ℕ
-from xs None = []
-from xs (Some x) = x ∷ after x xs
+sought keys b xs = find (λ x. slice_index keys x == b) xs

@@ -1,5 +1,8 @@
 pub mod Slots
+pub mod Places
 pub mod Links
 pub mod Models
 pub mod Buckets
 pub mod Keys
+pub mod Walks
+pub mod Left

@@ -56,7 +56,7 @@ entry_same s s' fs fs' y e f = rw (e, f)
 
 -- a slot is emptied
 pub released_entries : (s s' : Shelf) (fs : List Frame) (x : ℕ) → On s x → order s' ≡ slots.without x (order s) → ((y : ℕ) → y < 16 → key s' y ≡ cond (eqb y x) None (key s y)) → entries_in s' fs ≡ without (entry_in s fs x).number (entries_in s fs)
-released_entries s s' fs x (low, m) o k =
+released_entries s s' fs x m o k =
     entries_is s' fs ∙ (ap (λ xs. map (entry_in s' fs) xs) o
     ∙ (map_same (entry_in s' fs) (entry_in s fs) (slots.without x (order s)) same
     ∙ (map_without (entry_in s fs) x (order s) (only s fs x m) ∙ sym (ap (λ es. without (entry_in s fs x).number es) (entries_is s fs)))))
@@ -96,7 +96,7 @@ found s fs b None f =
 found s fs b (Some x) f =
     let m : member x (order s) ≡ true = s.listed x f.0 ∙ ap is_some f.1 in
     let n : unwrap_or (key s x) 0 ≡ b = ap (λ o. unwrap_or o 0) f.1 in
-    ((f.0, m), n, ap (λ z. find_entry z (entries_in s fs)) (sym n) ∙ (ap (λ es. find_entry (entry_in s fs x).number es) (entries_is s fs) ∙ find_held (entry_in s fs) x (order s) (only s fs x m) m))
+    (m, n, ap (λ z. find_entry z (entries_in s fs)) (sym n) ∙ (ap (λ es. find_entry (entry_in s fs x).number es) (entries_is s fs) ∙ find_held (entry_in s fs) x (order s) (only s fs x m) m))
 
 pub entries_none : (s : Shelf) (fs : List Frame) → order s ≡ [] → entries_in s fs ≡ []
 entries_none s fs e = entries_is s fs ∙ ap (λ xs. map (entry_in s fs) xs) e
@@ -110,7 +110,7 @@ last_slot s fs None e = entries_none s fs (go (order s) e)
     go (x ∷ xs) q = let z : ◌≡◌ {A = ℕ} 0 1 = cc in absurd (omega arith)
 last_slot s fs (Some x) e =
     let m : member x (order s) ≡ true = go (order s) e in (
-      (order_low s x m, m),
+      m,
       ap (λ es. last es) (entries_is s fs) ∙ last_map (entry_in s fs) x (order s) (sym e),
       ap (λ es. without (entry_in s fs x).number es) (entries_is s fs)
           ∙ (sym (map_without (entry_in s fs) x (order s) (only s fs x m))
@@ -123,7 +123,7 @@ last_slot s fs (Some x) e =
 
 -- a slot parts the entries
 pub entries_around : (s : Shelf) (fs : List Frame) (x : ℕ) → On s x → entries_in s fs ≡ above_in s fs x ++ entry_in s fs x ∷ below_in s fs x
-entries_around s fs x (low, m) =
+entries_around s fs x m =
     entries_is s fs ∙ (map_split (entry_in s fs) x (order s) m ∙ rw (above_is s fs x, below_is s fs x))
 
 pub first_slot : (s : Shelf) (fs : List Frame) (r : Option ℕ) → r ≡ first (order s) → MatchOption r (entries_in s fs ≡ []) (λ x. On s x × (above_in s fs x ≡ []) × (entries_in s fs ≡ entry_in s fs x ∷ below_in s fs x))
@@ -138,10 +138,10 @@ first_slot s fs r e = go (order s) refl r e
         let p : order s ≡ y ∷ xs = o ∙ ap (λ v. v ∷ xs) w in
         let m : member y (order s) ≡ true = ap (λ zs. member y zs) p ∙ member_here y xs in
         let a : above_in s fs y ≡ [] = above_is s fs y ∙ (ap (λ zs. map (entry_in s fs) (before y zs)) p ∙ rw (eq-eqb y y refl)) in
-        ((order_low s y m, m), a, entries_around s fs y (order_low s y m, m) ∙ ap (λ es. es ++ entry_in s fs y ∷ below_in s fs y) a)
+        (m, a, entries_around s fs y m ∙ ap (λ es. es ++ entry_in s fs y ∷ below_in s fs y) a)
 
 pub next_slot : (s : Shelf) (fs : List Frame) (x : ℕ) (r : Option ℕ) → On s x → r ≡ first (after x (order s)) → MatchOption r (below_in s fs x ≡ []) (λ y. On s y × (above_in s fs y ≡ above_in s fs x ++ entry_in s fs x ∷ []) × (below_in s fs x ≡ entry_in s fs y ∷ below_in s fs y))
-next_slot s fs x r (low, m) e = go (after x (order s)) refl r e
+next_slot s fs x r m e = go (after x (order s)) refl r e
   where
     go : (zs : List ℕ) → after x (order s) ≡ zs → (r : Option ℕ) → r ≡ first zs → MatchOption r (below_in s fs x ≡ []) (λ y. On s y × (above_in s fs y ≡ above_in s fs x ++ entry_in s fs x ∷ []) × (below_in s fs x ≡ entry_in s fs y ∷ below_in s fs y))
     go [] o None q = below_is s fs x ∙ ap (λ xs. map (entry_in s fs) xs) o
@@ -151,7 +151,7 @@ next_slot s fs x r (low, m) e = go (after x (order s)) refl r e
         let w : z ≡ y = cc in
         let p : after x (order s) ≡ y ∷ zs = o ∙ ap (λ v. v ∷ zs) w in
         let n : member y (order s) ≡ true = member_after x y (order s) zs p in (
-          (order_low s y n, n),
+          n,
           above_is s fs y ∙ (ap (λ xs. map (entry_in s fs) xs) (before_next x y (order s) zs (order_distinct s) m p)
               ∙ (map-append (entry_in s fs) (before x (order s)) (x ∷ []) ∙ ap (λ es. es ++ entry_in s fs x ∷ []) (sym (above_is s fs x)))),
           below_is s fs x ∙ (ap (λ xs. map (entry_in s fs) xs) p ∙ ap (λ es. entry_in s fs y ∷ es) (ap (λ xs. map (entry_in s fs) xs) (sym (after_first x y (order s) zs (order_distinct s) p)) ∙ sym (below_is s fs y))),
@@ -163,7 +163,7 @@ module _ (s : Shelf) (fs : List Frame) (x : ℕ) (wide : length fs ≡ 16) (here
   fs' = set fs x (saved_frame (get_or fs x blank))
 
   pub saved_held : entry_in s fs' x ≡ save (entry_in s fs x)
-  saved_held = let l = here.0 in let g : get_or fs' x blank ≡ saved_frame (get_or fs x blank) = get_or-set_same fs x (saved_frame (get_or fs x blank)) blank (omega arith) in rw g
+  saved_held = let l = order_low s x here in let g : get_or fs' x blank ≡ saved_frame (get_or fs x blank) = get_or-set_same fs x (saved_frame (get_or fs x blank)) blank (omega arith) in rw g
 
   other : (y : ℕ) → (y ≡ x → ⊥) → entry_in s fs' y ≡ entry_in s fs y
   other y ne = entry_same s s fs fs' y refl (get_or-set_other fs x y (saved_frame (get_or fs x blank)) blank ne)

@@ -3,3 +3,4 @@ pub mod Mapped
 pub mod Entering
 pub mod Laws
 pub mod Walking
+pub mod Placing

@@ -1,5 +1,5 @@
 -- A shelf stays in agreement with itself when a slot loses its number and when one gets a number.
-use Rattle.std.proofs.Common.{◌≡◌, ℕ, ◌+◌, ◌-◌, ◌^◌, ◌<◌, ◌≤◌, Bool, true, false, cond, not, eqb, ltb, List, [], ◌∷◌, length, is_some, Some, None, Option, sym, refl, ap, ◌∙◌, inl, inr, arith}
+use Rattle.std.proofs.Common.{◌≡◌, ℕ, ◌+◌, ◌-◌, ◌^◌, ◌<◌, ◌≤◌, Bool, true, false, cond, not, eqb, ltb, List, [], ◌∷◌, length, is_some, Some, None, Option, IsSome, sym, refl, ap, ◌∙◌, inl, inr, arith}
 use Rattle.std.proofs.lemmas.Bool.{cases_Bool, eqb-true, eqb-false, lt-ltb, le-ltb, ltb-true, ltb-false, both_ways}
 use Rattle.rings.specs.declared.index.Index.{Index}
 use Rattle.rings.specs.declared.rings.Rings.{Rings}
@@ -21,7 +21,7 @@ agreed s = record { listed = s.listed; spare = s.spare; single = s.single; small
 never : {A : Type 0} → (o : Option ℕ) → o ≡ None → is_some o ≡ true → A
 never o e h = absurd (both_ways (is_some o) (ap is_some e) h)
 
-module _ (p p' : Rings) (i i' : Index) (x : ℕ) (low : x < 16) (moved : (q : ℕ) → q < 16 → ring p' q ≡ fronted x 1 q (ring p q)) (keys : (y : ℕ) → y < 16 → key_of i' y ≡ cond (eqb y x) None (key_of i y)) where
+module _ (p p' : Rings) (i i' : Index) (x : ℕ) (moved : (q : ℕ) → q < 16 → ring p' q ≡ fronted x 1 q (ring p q)) (keys : (y : ℕ) → y < 16 → key_of i' y ≡ cond (eqb y x) None (key_of i y)) where
   here : (y : ℕ) → y < 16 → eqb y x ≡ true → key_of i' y ≡ None
   here y ly k = keys y ly ∙ rw k
 
@@ -72,7 +72,7 @@ module _ (p p' : Rings) (i i' : Index) (x : ℕ) (low : x < 16) (moved : (q : �
   released n m k =
       record { listed = released_listed k.listed; spare = released_spare k.spare; single = released_single k.single; small = released_small k.small; counted = (released_count n m k.counted).1 }
 
-module _ (p p' : Rings) (i i' : Index) (x b : ℕ) (low : x < 16) (fits : b < 2 ^ 32) (moved : (q : ℕ) → q < 16 → ring p' q ≡ fronted x 0 q (ring p q)) (keys : (y : ℕ) → y < 16 → key_of i' y ≡ cond (eqb y x) (Some b) (key_of i y)) (fresh : (y : ℕ) → y < 16 → key_of i y ≡ Some b → ⊥) where
+module _ (p p' : Rings) (i i' : Index) (x b : ℕ) (fits : b < 2 ^ 32) (moved : (q : ℕ) → q < 16 → ring p' q ≡ fronted x 0 q (ring p q)) (keys : (y : ℕ) → y < 16 → key_of i' y ≡ cond (eqb y x) (Some b) (key_of i y)) (fresh : (y : ℕ) → y < 16 → key_of i y ≡ Some b → ⊥) where
   new_here : (y : ℕ) → y < 16 → eqb y x ≡ true → key_of i' y ≡ Some b
   new_here y ly k = keys y ly ∙ rw k
 
@@ -145,6 +145,9 @@ freed_more p p' x moved f y ly =
       | inr h ↦ let g = ltb-false y x h in h ∙ sym (le-ltb y (x + 1) (grind arith))
     ]
 
-pub none_from_first : (xs : List ℕ) → ◌≡◌ {A = Option ℕ} None (first xs) → xs ≡ []
-none_from_first [] e = refl
-none_from_first (x ∷ xs) e = let z : ◌≡◌ {A = ℕ} 0 1 = cc in absurd (omega arith)
+pub freed_none : (p p' : Rings) (x : ℕ) → ((q : ℕ) → q < 16 → ring p' q ≡ fronted x 1 q (ring p q)) → ring p 0 ≡ [] → ring p' 0 ≡ []
+freed_none p p' x moved e = moved 0 (omega arith) ∙ ap (λ xs. without x xs) e
+
+pub first_some : (xs : List ℕ) → (xs ≡ [] → ⊥) → IsSome (first xs)
+first_some [] ne = absurd (ne refl)
+first_some (x ∷ xs) ne = refl

@@ -34,7 +34,7 @@ below_in s frames x = map (entry_in s frames) (after x (order s))
 
 -- slot x has a number
 abbrev pub On : Shelf → ℕ → Type 0
-On s x = (x < 16) × (member x (order s) ≡ true)
+On s x = member x (order s) ≡ true
 
 -- a slot that has a number, or none
 abbrev pub OnIf : Shelf → Option ℕ → Type 0

@@ -1,5 +1,5 @@
 -- What a row holds, and what stands around one of its slots.
-use Rattle.std.specs.Prelude.{◌≡◌, ℕ, ◌<◌, true, List, [], ◌∷◌, IfSome, Some, None, Option}
+use Rattle.std.specs.Prelude.{◌≡◌, ℕ, true, List, [], ◌∷◌, IfSome, Some, None, Option}
 use Rattle.rings.specs.Slots.{member}
 use Rattle.row.specs.declared.row.Row.{Row}
 use Rattle.row.specs.Entries.{Entry, RowModel}
@@ -15,7 +15,7 @@ model r = record { capacity = r.capacity; entries = entries r }
 
 -- slot x has an entry
 abbrev pub Stands : Row → ℕ → Type 0
-Stands r x = (x < 16) × (member x (order r.shelf) ≡ true)
+Stands r x = member x (order r.shelf) ≡ true
 
 -- the entry in slot x, the entries before it, and those behind it
 abbrev pub held : Row → ℕ → Entry

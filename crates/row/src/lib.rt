@@ -8,4 +8,5 @@ mod shelf;
 
 pub use capacity::CapacityFault;
 pub use frame::{Mark, Tag};
+pub use rings::Slot;
 pub use row::Row;

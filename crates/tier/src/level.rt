@@ -14,7 +14,7 @@ use crate::faults::{DemoteFault, Dropped, LiftFault, Lifted};
 use crate::tier::Tier;
 use crate::victim::Victim;
 use device::{BLOCK, DeviceFault};
-use row::{CapacityFault, Mark, Row, Tag};
+use row::{CapacityFault, Mark, Row, Slot, Tag};
 
 // A tier whose top row is its own, over the rows of the tier below.
 #[derive(Drop)]
@@ -144,7 +144,7 @@ impl<T: Tier> Level<T> {
     }
 
     // Saves the entry in a slot unless it is saved.
-    fn save_slot(&mut self, slot: usize) -> Result<(), Dropped>
+    fn save_slot(&mut self, slot: Slot) -> Result<(), Dropped>
         requires { Stands self.old.row slot }
         ensures answer { result ≡ save_answer (T.Tier.model self.old.below).store (held self.old.row slot) }
         ensures row { kept self.new.row ≡ holding (above self.old.row slot ++ save_entry result (held self.old.row slot) ∷ below self.old.row slot) (kept self.old.row) }

@@ -7,19 +7,19 @@ ghost use Rattle.row.specs.Refusals.{capacity_answer as answered};
 ghost use Rattle.row.specs.Rows.{model, entries, Stands, held, above, below};
 
 use crate::capacity::{CapacityFault, check};
-use crate::frame::{Mark, Tag, copy_out, fill, frames, save};
+use crate::frame::{Frame, Mark, Tag};
 use crate::row::Row;
 use crate::shelf::Shelf;
+use rings::Slot;
 
 impl Row {
     // A row of no entries and capacity 1.
     pub fn new() -> Row
         ensures { model result ≡ record { capacity = 1; entries = [] } }
     {
-        let frames = frames();
         Row {
             shelf: Shelf::new(),
-            frames,
+            frames: [Frame::new(); 16],
             capacity: 1,
         }
     }
@@ -35,37 +35,36 @@ impl Row {
     }
 
     // Copies the entry in a slot into the buffer, and removes it.
-    pub fn take_slot(&mut self, slot: usize, buffer: &mut [u8]) -> Tag
+    pub fn take_slot(&mut self, slot: Slot, buffer: &mut [u8]) -> Tag
         requires { (Stands self.old slot) × (length buffer.old ≡ 256) }
         ensures answer { result ≡ told (held self.old slot) }
         ensures buffer { buffer.new ≡ (held self.old slot).bytes }
         ensures after { model self.new ≡ holding (without (held self.old slot).number (entries self.old)) (model self.old) }
     {
         let tag = self.tag(slot);
-        copy_out(&self.frames, slot, buffer);
+        self.frames[slot.index()].copy_out(buffer);
         self.drop_slot(slot);
         tag
     }
 
     // Removes the entry in a slot.
-    pub fn drop_slot(&mut self, slot: usize)
+    pub fn drop_slot(&mut self, slot: Slot)
         requires { Stands self.old slot }
         ensures { model self.new ≡ holding (without (held self.old slot).number (entries self.old)) (model self.old) }
     {
         self.shelf.release(slot);
     }
 
-    // Copies the entry that names a block into the buffer, and removes it.
+    // Copies the entry that names a block into the buffer, and removes it. The buffer is a slice: the tiers above are lent
+    // slices of any length, which they refuse while they run, and a lent slice that is turned into a lent array gets no proof.
     pub fn take(&mut self, number: u32, buffer: &mut [u8]) -> Option<Mark>
         requires { length buffer.old ≡ 256 }
         ensures answer { result ≡ option_map (λ e. e.mark) (sought number (entries self.old)) }
         ensures buffer { buffer.new ≡ contents (sought number (entries self.old)) buffer.old }
         ensures after { model self.new ≡ holding (without number (entries self.old)) (model self.old) }
     {
-        match self.find(number) {
-            Some(slot) => Some(self.take_slot(slot, buffer).mark),
-            None => None,
-        }
+        let slot = self.find(number)?;
+        Some(self.take_slot(slot, buffer).mark)
     }
 
     // Removes the entry that names a block, if there is one.
@@ -87,14 +86,12 @@ impl Row {
         if self.len() != self.capacity {
             return None;
         }
-        match self.last_slot() {
-            Some(slot) => Some(self.take_slot(slot, buffer)),
-            None => None,
-        }
+        let slot = self.last_slot()?;
+        Some(self.take_slot(slot, buffer))
     }
 
     // The slot of the last entry.
-    fn last_slot(&self) -> Option<usize>
+    fn last_slot(&self) -> Option<Slot>
         ensures { MatchOption result (entries self.now ≡ []) (λ x. Stands self.now x × (last (entries self.now) ≡ Some (held self.now x)) × (without (held self.now x).number (entries self.now) ≡ front (entries self.now))) }
     {
         self.shelf.last()
@@ -108,11 +105,11 @@ impl Row {
         ensures { model self.new ≡ holding (record { number = number; bytes = bytes.now; mark = mark } ∷ entries self.old) (model self.old) }
     {
         let slot = self.shelf.admit(number);
-        fill(&mut self.frames, slot, bytes, mark);
+        self.frames[slot.index()].fill(bytes, mark);
     }
 
     // Marks the entry in a slot saved.
-    pub fn mark_saved(&mut self, slot: usize)
+    pub fn mark_saved(&mut self, slot: Slot)
         requires { Stands self.old slot }
         ensures after { model self.new ≡ holding (above self.old slot ++ save (held self.old slot) ∷ below self.old slot) (model self.old) }
         ensures stands { Stands self.new slot }
@@ -120,6 +117,6 @@ impl Row {
         ensures above { above self.new slot ≡ above self.old slot }
         ensures below { below self.new slot ≡ below self.old slot }
     {
-        save(&mut self.frames, slot);
+        self.frames[slot.index()].save();
     }
 }

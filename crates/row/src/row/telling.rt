@@ -4,8 +4,9 @@ ghost use Rattle.std.specs.Option.{option_map};
 ghost use Rattle.row.specs.Entries.{find_entry as sought, without, tag_of as told, at_place as placed};
 ghost use Rattle.row.specs.Rows.{model, entries, Stands, Standing, held, above, below, passed, coming};
 
-use crate::frame::{Tag, mark_of};
+use crate::frame::Tag;
 use crate::row::Row;
+use rings::Slot;
 
 impl Row {
     // How many entries there can be.
@@ -23,33 +24,33 @@ impl Row {
     }
 
     // The slot of the entry that names a block, by one look into the index.
-    pub fn find(&self, number: u32) -> Option<usize>
+    pub fn find(&self, number: u32) -> Option<Slot>
         ensures { MatchOption result ((sought number (entries self.now) ≡ None) × (without number (entries self.now) ≡ entries self.now)) (λ x. Stands self.now x × ((held self.now x).number ≡ number) × (sought number (entries self.now) ≡ Some (held self.now x))) }
     {
         self.shelf.find(number)
     }
 
     // The number and the mark of the entry in a slot.
-    pub fn tag(&self, slot: usize) -> Tag
+    pub fn tag(&self, slot: Slot) -> Tag
         requires { Stands self.now slot }
         ensures { result ≡ told (held self.now slot) }
     {
         Tag {
             number: self.shelf.number(slot),
-            mark: mark_of(&self.frames, slot),
+            mark: self.frames[slot.index()].mark,
         }
     }
 
     // The bytes of the entry in a slot.
-    pub fn bytes(&self, slot: usize) -> &[u8]
+    pub fn bytes(&self, slot: Slot) -> &[u8]
         requires { Stands self.now slot }
         ensures { result.now ≡ (held self.now slot).bytes }
     {
-        &self.frames[slot].bytes
+        &self.frames[slot.index()].bytes
     }
 
     // The slot of the first entry.
-    pub fn first_slot(&self) -> Option<usize>
+    pub fn first_slot(&self) -> Option<Slot>
         ensures standing { Standing self.now result }
         ensures passed { passed self.now result ≡ [] }
         ensures coming { coming self.now result ≡ entries self.now }
@@ -58,7 +59,7 @@ impl Row {
     }
 
     // The slot of the entry behind the one in a slot.
-    pub fn next_slot(&self, slot: usize) -> Option<usize>
+    pub fn next_slot(&self, slot: Slot) -> Option<Slot>
         requires { Stands self.now slot }
         ensures standing { Standing self.now result }
         ensures passed { passed self.now result ≡ above self.now slot ++ held self.now slot ∷ [] }
@@ -71,15 +72,7 @@ impl Row {
     pub fn entry(&self, place: u32) -> Option<Tag>
         ensures { result ≡ option_map told (placed place (entries self.now)) }
     {
-        let mut left = place;
-        let mut at = self.first_slot();
-        while let Some(slot) = at {
-            if left == 1 {
-                return Some(self.tag(slot));
-            }
-            left = left.saturating_sub(1);
-            at = self.next_slot(slot);
-        }
-        None
+        let slot = self.shelf.at(place)?;
+        Some(self.tag(slot))
     }
 }

@@ -1,19 +1,20 @@
 // What a shelf does.
 ghost use Rattle.std.specs.Prelude.{◌≡◌, ℕ, ◌<◌, ◌≤◌, true, false, List, [], ◌∷◌, ◌++◌, length, if◌then◌else◌, Some, None, MatchOption, ◌≢◌, nat_eq, slice_set};
+ghost use Rattle.std.specs.Option.{option_map};
 ghost use Rattle.rings.specs.Slots.{member, without as unlisted, first, last, after};
 ghost use Rattle.rings.specs.Models.{ring};
 ghost use Rattle.row.specs.declared.frame.Frame.{Frame};
-ghost use Rattle.row.specs.Entries.{without};
+ghost use Rattle.row.specs.Entries.{without, at_place as placed};
 ghost use Rattle.row.specs.Held.{entries_in as entries, entry_in as held, above_in as above, below_in as below, passed_in as passed, coming_in as coming, OnIf as Standing, Found, Last};
 ghost use Rattle.row.specs.Orders.{order, key};
 
 use crate::shelf::Shelf;
-use rings::{Index, Rings};
+use rings::{Index, Ring, Rings, Slot};
 
 // The ring of the slots that have numbers, latest first, and the ring of those that have none.
-const ORDER: usize = 0;
+const ORDER: Ring = Ring::FIRST;
 
-const FREE: usize = 1;
+const FREE: Ring = Ring::SECOND;
 
 impl Shelf {
     // A shelf of no numbers.
@@ -38,7 +39,7 @@ impl Shelf {
     }
 
     // The slot that has a number.
-    pub fn find(&self, number: u32) -> Option<usize>
+    pub fn find(&self, number: u32) -> Option<Slot>
         ensures slot { MatchOption result ((x : ℕ) → x < 16 → key self.now x ≢ Some number) (λ x. (x < 16) × (key self.now x ≡ Some number)) }
         ensures entries { (frames : List Frame) → Found self.now frames number result }
     {
@@ -46,15 +47,15 @@ impl Shelf {
     }
 
     // The number of a slot in order.
-    pub fn number(&self, x: usize) -> u32
-        requires { (x < 16) × (member x (order self.now) ≡ true) }
+    pub fn number(&self, x: Slot) -> u32
+        requires { member x (order self.now) ≡ true }
         ensures { key self.now x ≡ Some result }
     {
         self.index.number(x)
     }
 
     // The first slot in order.
-    pub fn first(&self) -> Option<usize>
+    pub fn first(&self) -> Option<Slot>
         ensures slot { result ≡ first (order self.now) }
         ensures standing { Standing self.now result }
         ensures passed { (frames : List Frame) → passed self.now frames result ≡ [] }
@@ -63,14 +64,15 @@ impl Shelf {
         self.front()
     }
 
-    fn front(&self) -> Option<usize>
+    // The same, of the order alone.
+    fn front(&self) -> Option<Slot>
         ensures { result ≡ first (order self.now) }
     {
         self.places.first(ORDER)
     }
 
     // The last slot in order.
-    pub fn last(&self) -> Option<usize>
+    pub fn last(&self) -> Option<Slot>
         ensures slot { result ≡ last (order self.now) }
         ensures entries { (frames : List Frame) → Last self.now frames result }
     {
@@ -78,8 +80,8 @@ impl Shelf {
     }
 
     // The slot behind a slot in order.
-    pub fn next(&self, x: usize) -> Option<usize>
-        requires { (x < 16) × (member x (order self.now) ≡ true) }
+    pub fn next(&self, x: Slot) -> Option<Slot>
+        requires { member x (order self.now) ≡ true }
         ensures slot { result ≡ first (after x (order self.now)) }
         ensures standing { Standing self.now result }
         ensures passed { (frames : List Frame) → passed self.now frames result ≡ above self.now frames x ++ held self.now frames x ∷ [] }
@@ -88,16 +90,26 @@ impl Shelf {
         self.behind(x)
     }
 
-    fn behind(&self, x: usize) -> Option<usize>
-        requires { (x < 16) × (member x (order self.now) ≡ true) }
+    // The same, of the order alone.
+    fn behind(&self, x: Slot) -> Option<Slot>
+        requires { member x (order self.now) ≡ true }
         ensures { result ≡ first (after x (order self.now)) }
     {
         self.places.next(x)
     }
 
+    // The slot at a place in order, counted from 1.
+    pub fn at(&self, place: u32) -> Option<Slot>
+        ensures standing { Standing self.now result }
+        ensures entries { (frames : List Frame) → placed place (entries self.now frames) ≡ option_map (held self.now frames) result }
+    {
+        let passed = place.checked_sub(1)?;
+        self.places.slots(ORDER).nth(passed as usize)
+    }
+
     // Takes the number of a slot away.
-    pub fn release(&mut self, x: usize)
-        requires { (x < 16) × (member x (order self.old) ≡ true) }
+    pub fn release(&mut self, x: Slot)
+        requires { member x (order self.old) ≡ true }
         ensures order { order self.new ≡ unlisted x (order self.old) }
         ensures keys { (y : ℕ) → y < 16 → key self.new y ≡ (if nat_eq y x then None else key self.old y) }
         ensures fewer { length (order self.new) ≤ length (order self.old) }
@@ -109,7 +121,7 @@ impl Shelf {
     }
 
     // Gives a number that no slot has to a slot that has none, which then is the first in order.
-    pub fn admit(&mut self, number: u32) -> usize
+    pub fn admit(&mut self, number: u32) -> Slot
         requires room { length (order self.old) < 16 }
         requires fresh { (y : ℕ) → y < 16 → key self.old y ≢ Some number }
         ensures slot { (result < 16) × (member result (order self.old) ≡ false) }
@@ -125,14 +137,11 @@ impl Shelf {
     }
 
     // A slot that has no number.
-    fn spare(&self) -> usize
+    fn spare(&self) -> Slot
         requires { length (order self.now) < 16 }
         ensures { (result < 16) × (member result (order self.now) ≡ false) × (key self.now result ≡ None) }
     {
-        match self.places.first(FREE) {
-            Some(x) => x,
-            None => unreachable(),
-        }
+        self.places.first(FREE).unwrap()
     }
 }
 
@@ -142,7 +151,7 @@ fn all_free() -> Rings
     ensures free { (x : ℕ) → x < 16 → member x (ring result 1) ≡ true }
 {
     let mut places = Rings::new();
-    for x in 0..16_usize {
+    for x in Slot::all() {
         places.move_to_front(x, FREE);
     }
     places

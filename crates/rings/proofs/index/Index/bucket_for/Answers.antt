@@ -7,7 +7,4 @@ use Rattle.rings.proofs.index.Index.bucket_for.Goals as goal
 pub returns : goal.returns
 returns c =
     let s = c.args.self.now in
-    record {
-      few = c.bucket_of.ensures.few;
-      finds = found_key s.rings s.keys c.args.number _ (ap (λ r. sought s.keys c.args.number (ring s.rings r)) c.bucket_of.ensures.bucket);
-    }
+    found_key s.rings s.keys c.args.number _ (ap (λ r. sought s.keys c.args.number (ring s.rings r)) c.bucket_of.ensures)

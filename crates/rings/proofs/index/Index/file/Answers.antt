@@ -5,16 +5,16 @@ use Rattle.rings.specs.Models.{ring, fronted}
 use Rattle.rings.proofs.Filing.{insert_filed, insert_key, remove_filed, remove_key}
 use Rattle.rings.proofs.index.Index.file.Goals as goal
 
-moved : (c : goal.After-move_to_front) (q : ℕ) → q < 16 → ring c.move_to_front.new.self q ≡ fronted c.args.slot (bucket c.in-Some.n) q (ring c.args.self.now.rings q)
-moved c q h = c.move_to_front.ensures q h ∙ ap (λ r. fronted c.args.slot r q (ring c.args.self.now.rings q)) c.bucket_of.ensures.bucket
-
 pub invariant_of-self : goal.invariant_of-self
 invariant_of-self c =
     let s = c.args.self.now in
-    record {
+    let x = c.index.ensures in
+    let moved : (q : ℕ) → q < 16 → ring c.move_to_front.new.self q ≡ fronted c.args.slot (bucket c.in-Some.n) q (ring s.rings q) =
+    λ q h. c.move_to_front.ensures q h ∙ ap (λ r. fronted c.args.slot r q (ring s.rings q)) c.bucket_of.ensures in
+    rw x.same (record {
       wide = length-set s.keys c.args.slot c.in-Some.n ∙ s.wide;
-      filed = insert_filed s.rings c.move_to_front.new.self s.keys c.in-Some.n c.args.slot s.wide c.requires (moved c) s.filed;
-    }
+      filed = insert_filed s.rings c.move_to_front.new.self s.keys c.in-Some.n c.args.slot s.wide x.few moved s.filed;
+    })
 
 pub invariant_of-self-in-None : goal.invariant_of-self-in-None
 invariant_of-self-in-None c =
@@ -24,8 +24,10 @@ invariant_of-self-in-None c =
 pub returns-in-Some : goal.returns-in-Some
 returns-in-Some c y h =
     let s = c.args.self.now in
-    insert_key s.rings c.move_to_front.new.self s.keys c.in-Some.n c.args.slot s.wide c.requires
-    (λ q l. c.move_to_front.ensures q l ∙ ap (λ r. fronted c.args.slot r q (ring s.rings q)) c.bucket_of.ensures.bucket) y h
+    let x = c.index.ensures in
+    let moved : (q : ℕ) → q < 16 → ring c.move_to_front.new.self q ≡ fronted c.args.slot (bucket c.in-Some.n) q (ring s.rings q) =
+    λ q h. c.move_to_front.ensures q h ∙ ap (λ r. fronted c.args.slot r q (ring s.rings q)) c.bucket_of.ensures in
+    rw x.same (insert_key s.rings c.move_to_front.new.self s.keys c.in-Some.n c.args.slot s.wide x.few moved y h)
     ∙ ap (λ o. cond (eqb y c.args.slot) o (key_in s.rings s.keys y)) (sym c.in-Some.is)
 
 pub returns-in-None : goal.returns-in-None

@@ -1,23 +1,15 @@
+use Rattle.std.proofs.Common.{rules, eqb, get_or, sym, ◌∙◌}
+use Rattle.std.proofs.lemmas.Iterator.Search.{find_from_yields_List}
+use Rattle.std.proofs.lemmas.Iterator.Consumers.{YieldsList-from_first}
+use Rattle.std.proofs.lemmas.Iterator.Adapters.{option_map_id}
+use borrow.Author.Tests.{tests}
+use Rattle.rings.specs.Left.{left_of}
 use Rattle.rings.specs.Models.{ring}
-use Rattle.rings.proofs.Filing.{ring_slots, ring_distinct, seek_starts, seek_goes, seek_falls}
 use Rattle.rings.proofs.index.Index.seek.Goals as goal
 
-pub loop-at-init : goal.loop-at-init
-loop-at-init c =
+pub returns : goal.returns
+returns c =
     let s = c.args.self.now in
-    let b = c.args.bucket in
-    seek_starts s.keys c.args.number (ring s.rings b) c.first-at.result (ring_slots s.rings b c.requires) c.first-at.ensures
-
-pub loop-at-smaller : goal.loop-at-smaller
-loop-at-smaller c =
-    let s = c.args.self.now in
-    let b = c.args.bucket in
-    seek_falls s.keys c.args.number (ring s.rings b) c.loop-at.at c.next-at.result c.in-Some.x (ring_distinct s.rings b c.requires) (ring_slots s.rings b c.requires)
-    c.loop-at.invariant.1 c.in-Some.is (c.next-at.ensures b c.requires)
-
-pub loop-at-preserved : goal.loop-at-preserved
-loop-at-preserved c =
-    let s = c.args.self.now in
-    let b = c.args.bucket in
-    seek_goes s.keys c.args.number (ring s.rings b) c.loop-at.at c.next-at.result c.in-Some.x (ring_distinct s.rings b c.requires) (ring_slots s.rings b c.requires)
-    c.loop-at.invariant.1 c.in-Some.is (c.next-at.ensures b c.requires) c.loop-at.invariant.0 c.if-self-x.false
+    sym (option_map_id c.find.result)
+    ∙ find_from_yields_List (λ x. eqb (get_or s.keys x 0) c.args.number) c.find.new.self _ c.find.result c.find.ensures.ran
+    (YieldsList-from_first (λ x. x) left_of {s = c.slots.result} (ring s.rings c.args.bucket) c.slots.ensures) (λ x b q k. search (rules, tests))

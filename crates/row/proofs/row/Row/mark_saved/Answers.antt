@@ -5,11 +5,12 @@ pub returns : goal.returns
 returns c =
     let r = c.args.self.now in
     let x = c.args.slot in
+    let i = c.index.ensures.same in
     let e = c.save.ensures in
     record {
-      after = rw (e, saved_entries r.shelf r.frames x r.wide c.requires);
+      after = rw (e, i, saved_entries r.shelf r.frames x r.wide c.requires);
       stands = c.requires;
-      held = rw e (saved_held r.shelf r.frames x r.wide c.requires);
-      above = rw e (saved_above r.shelf r.frames x r.wide c.requires);
-      below = rw e (saved_below r.shelf r.frames x r.wide c.requires);
+      held = rw (e, i) (saved_held r.shelf r.frames x r.wide c.requires);
+      above = rw (e, i) (saved_above r.shelf r.frames x r.wide c.requires);
+      below = rw (e, i) (saved_below r.shelf r.frames x r.wide c.requires);
     }
