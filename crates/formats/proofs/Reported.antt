@@ -1,5 +1,5 @@
 -- The lines of a report written one after another.
-use Rattle.std.proofs.Common.{◌≡◌, ℕ, ◌+◌, ◌<◌, ◌≤◌, List, [], ◌++◌, length, get_or, drop, sym, ap, subst}
+use Rattle.std.proofs.Common.{◌≡◌, ℕ, ◌+◌, ◌<◌, ◌≤◌, List, length, get_or, drop, sym, ap, subst}
 use Rattle.std.proofs.lemmas.List.{drop_more, drop_all}
 use Rattle.formats.specs.declared.report.LevelTally.{LevelTally}
 use Rattle.formats.specs.declared.report.cursor.Cursor.{Cursor}

@@ -13,6 +13,7 @@ pub struct Cursor<'a> {
 impl Cursor<'_> {
     ghost use Rattle.formats.specs.Reports.{field, level_line as one_line, last_line as word_line, Wrote};
 
+    // A text, which is written where there is room for the whole of it.
     fn text(&mut self, text: &[u8])
         ensures { Wrote text.now self.old self.new }
     {
@@ -23,6 +24,7 @@ impl Cursor<'_> {
         self.at = end;
     }
 
+    // A word and a number.
     fn field(&mut self, word: &[u8], n: u64)
         ensures { Wrote (field word.now n) self.old self.new }
     {

@@ -6,6 +6,7 @@ ghost use Rattle.formats.specs.ReportLaws.{ReadBack};
 use crate::report::cursor::Cursor;
 use crate::report::{LevelTally, Report, ReportFault};
 
+// The lines of the levels, counted from 1.
 fn put_levels(cursor: &mut Cursor<'_>, levels: &[LevelTally])
     ensures { Wrote (all_lines 1 levels.now) cursor.old cursor.new }
 {
@@ -15,6 +16,7 @@ fn put_levels(cursor: &mut Cursor<'_>, levels: &[LevelTally])
 }
 
 impl Report<'_> {
+    // The line of each level, and then the last two.
     fn put(&self, cursor: &mut Cursor<'_>)
         ensures { Wrote (report self.now.levels.now self.now.floor self.now.refused) cursor.old cursor.new }
     {
