@@ -25,20 +25,32 @@ const SHEETS: &[(&str, &[u8])] = &[
     ("units that differ", b"PILE\x00\x02\x03\x04\x00"),
     ("missing second unit", b"PILE\x00\x02\x03"),
     ("missing defect count", b"PILE\x00\x01\x01"),
-    ("three defects", b"PILE\x00\x01\x01\x03\x00\x00\x00\x05\x01\x00"),
+    (
+        "three defects",
+        b"PILE\x00\x01\x01\x03\x00\x00\x00\x05\x01\x00",
+    ),
     ("greatest defect", b"PILE\x00\x01\x01\x01\xff\xff"),
     ("a defect twice", b"PILE\x00\x01\x01\x02\x00\x05\x00\x05"),
     ("falling defects", b"PILE\x00\x01\x01\x02\x01\x00\x00\xff"),
     ("half a defect", b"PILE\x00\x01\x01\x01\x00"),
     ("half a falling defect", b"PILE\x00\x01\x01\x02\x00\x05\x00"),
     ("seventeen defects", b"PILE\x00\x01\x01\x11"),
-    ("sixteen defects", b"PILE\x00\x01\x01\x10\x00\x01\x00\x02\x00\x03\x00\x04\x00\x05\x00\x06\x00\x07\x00\x08\x00\x09\x00\x0a\x00\x0b\x00\x0c\x00\x0d\x00\x0e\x00\x0f\x00\x10"),
+    (
+        "sixteen defects",
+        b"PILE\x00\x01\x01\x10\x00\x01\x00\x02\x00\x03\x00\x04\x00\x05\x00\x06\x00\x07\x00\x08\x00\x09\x00\x0a\x00\x0b\x00\x0c\x00\x0d\x00\x0e\x00\x0f\x00\x10",
+    ),
     ("extra byte", b"PILE\x00\x01\x01\x00\x00"),
 ];
 
 fn show(rt: &HostRuntime, name: &str, bytes: &[u8]) -> io::Result<()> {
     match read_sheet(rt.alloc(), bytes) {
-        Ok(Sheet { levels, images, defects }) => { println!(rt; "{name}: levels {levels:?} images {images:?} defects {defects:?}") }
+        Ok(
+            Sheet {
+                levels,
+                images,
+                defects,
+            },
+        ) => { println!(rt; "{name}: levels {levels:?} images {images:?} defects {defects:?}") }
         Err(fault) => println!(rt; "{name}: {fault}"),
     }
 }

@@ -9,7 +9,10 @@ const TRACES: &[(&str, &[u8])] = &[
     ("first line without its end", b"demote-trace 1"),
     ("another first line", b"demote-trace 2\nS\n"),
     ("blank after the first line", b"demote-trace 1 \n"),
-    ("lawful trace", b"demote-trace 1\nR 0\nR 65535\nW 7 a0\nW 10 0f\nS\n"),
+    (
+        "lawful trace",
+        b"demote-trace 1\nR 0\nR 65535\nW 7 a0\nW 10 0f\nS\n",
+    ),
     ("number 65536", b"demote-trace 1\nR 65536\n"),
     ("leading zero", b"demote-trace 1\nR 07\n"),
     ("long number", b"demote-trace 1\nR 100000000000000000000\n"),
@@ -34,7 +37,11 @@ const TRACES: &[(&str, &[u8])] = &[
 fn show_line(rt: &HostRuntime, line: Line) -> io::Result<()> {
     match line {
         Line::Read { number } => print!(rt; " read {}", number_in(number).unwrap_or(0)),
-        Line::Write { number, fill } => print!(rt; " write {} {}", number_in(number).unwrap_or(0), fill_in(fill).unwrap_or(0)),
+        Line::Write { number, fill } => print!(rt;
+            " write {} {}",
+            number_in(number).unwrap_or(0),
+            fill_in(fill).unwrap_or(0)
+        ),
         Line::Sync => print!(rt; " sync"),
     }
 }
