@@ -52,6 +52,3 @@ module _ (ds : List ℕ) (i value : ℕ) (going : Going ds i value) where
 
   pub going_big : i < length ds → (v : ℕ) → ◌≡◌ {A = Option ℕ} (Some v) (digit (get_or ds i 0)) → 65535 < 10 * value + v → ◌≡◌ {A = Option ℕ} None (small_after 0 ds)
   going_big l v h b = sym (going_more l v h ∙ small_big (10 * value + v) (drop (i + 1) ds) b)
-
-  pub going_all : length ds ≤ i → value ≤ 65535 → Some value ≡ small_after 0 ds
-  going_all l b = sym (going ∙ (ap (λ zs. small_after value zs) (drop_all i ds l) ∙ ap (λ t. cond t (Some value) None) (le-leb value 65535 b)))

@@ -59,8 +59,3 @@ wrote_next {a = a} {b = b} {x = x} {y = y} {z = z} v w = record { stops = behind
 
 pub wrote_none : (x : Cursor) → Wrote [] x x
 wrote_none x = record { stops = λ h. omega arith; bytes = λ r s. sym (placed_none x.at x.buffer.now); same_reference = refl }
-
-pub text_placed : (text : List ℕ) (at : ℕ) (xs zs : List ℕ) → zs ≡ text → put_mid at ((at + length text) - at) xs zs ≡ placed text at xs
-text_placed text at xs zs e =
-    let k : (at + length text) - at ≡ length text = omega arith in
-    ap (λ ys. put_mid at ((at + length text) - at) xs ys) e ∙ ap (λ ys. take at xs ++ (text ++ ys)) (drop-drop ((at + length text) - at) at xs ∙ ap (λ n. drop (at + n) xs) k)

@@ -1,7 +1,8 @@
 // Writing texts into a buffer, one behind the other.
-ghost use Rattle.std.specs.Prelude.{◌≡◌};
+ghost use Rattle.std.specs.Prelude.{◌++◌};
 
 use crate::report::LevelTally;
+use itoa::{Buffer, Integer};
 
 // A buffer, and where the next text goes. A text that has no room is counted and not written.
 #[derive(Drop)]
@@ -11,7 +12,7 @@ pub struct Cursor<'a> {
 }
 
 impl Cursor<'_> {
-    ghost use Rattle.formats.specs.Reports.{field, level_line as one_line, last_line as word_line, Wrote};
+    ghost use Rattle.formats.specs.Reports.{level_line as one_line, last_line as word_line, Wrote};
 
     // A text, which is written where there is room for the whole of it.
     fn text(&mut self, text: &[u8])
@@ -25,11 +26,11 @@ impl Cursor<'_> {
     }
 
     // A word and a number.
-    fn field(&mut self, word: &[u8], n: u64)
-        ensures { Wrote (field word.now n) self.old self.new }
+    fn field<N: Integer>(&mut self, word: &[u8], n: N)
+        ensures { Wrote (word.now ++ N.text n) self.old self.new }
     {
         self.text(word);
-        self.text(itoa::Buffer::new().format(n).as_bytes());
+        self.text(Buffer::new().format(n).as_bytes());
     }
 
     // A word, a number and the end of the line.
@@ -41,12 +42,12 @@ impl Cursor<'_> {
     }
 
     // The line of the level of this number.
-    pub fn level(&mut self, i: u64, level: &LevelTally)
+    pub fn level(&mut self, i: usize, level: &LevelTally)
         ensures { Wrote (one_line i level.now) self.old self.new }
     {
         self.field(b"level ", i);
-        self.field(b" capacity ", u64::from(level.capacity));
-        self.field(b" hits ", u64::from(level.hits));
+        self.field(b" capacity ", level.capacity);
+        self.field(b" hits ", level.hits);
         self.text(b"\n");
     }
 }

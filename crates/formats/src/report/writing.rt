@@ -11,7 +11,7 @@ fn put_levels(cursor: &mut Cursor<'_>, levels: &[LevelTally])
     ensures { Wrote (all_lines 1 levels.now) cursor.old cursor.new }
 {
     for (i, level) in levels.iter().enumerate() {
-        cursor.level(i as u64 + 1, level);
+        cursor.level(i + 1, level);
     }
 }
 

@@ -62,7 +62,7 @@ pub fn first_line(rest: &[u8]) -> Option<(Line<'_>, &[u8])>
 #[derive(Drop)]
 pub struct Lines<'a> {
     // The bytes that are left.
-    pub(super) rest: &'a [u8],
+    pub rest: &'a [u8],
 }
 
 impl<'a> Lines<'a> {
