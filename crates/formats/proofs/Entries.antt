@@ -1,5 +1,5 @@
 -- Entries of a section read one after another: what is read so far, and what is left.
-use Rattle.std.proofs.Common.{◌≡◌, ℕ, suc, ◌+◌, ◌-◌, ◌<◌, ◌≤◌, List, [], ◌∷◌, ◌++◌, Ok, Err, Result, sym, refl, ap, ◌∙◌, append_assoc, append-nil, arith}
+use Rattle.std.proofs.Common.{◌≡◌, ℕ, suc, ◌+◌, ◌-◌, ◌<◌, List, [], ◌∷◌, ◌++◌, Ok, Err, Result, sym, refl, ap, ◌∙◌, append_assoc, arith}
 use Rattle.formats.specs.declared.sheet.SheetFault.{SheetFault}
 use Rattle.formats.specs.declared.sheet.SheetFault.TheVariants.{Cut, Broken, Extra, Memory}
 use Rattle.formats.specs.Sheets.{Reading, then, entries}
@@ -21,10 +21,6 @@ abbrev joined : List ℕ → Reading (List ℕ) → Reading (List ℕ)
 joined xs (Ok p) = Ok (xs ++ p.0, p.1)
 joined xs (Err e) = Err e
 
-joined_nil : (r : Reading (List ℕ)) → joined [] r ≡ r
-joined_nil (Ok p) = refl
-joined_nil (Err e) = refl
-
 -- one entry before the others
 abbrev onto : ℕ → Reading (List ℕ) → Reading (List ℕ)
 onto x r = then r (λ xs after. Ok (x ∷ xs, after))
@@ -42,9 +38,6 @@ module _ (read : ℕ → ℕ → List ℕ → Reading ℕ) (to : ℕ → ℕ) (s
   pub record Left (xs : List ℕ) (least i : ℕ) (reader : Reader) : Type 0 where
     pub total : reader.total ≡ start.total
     pub same : all ≡ joined xs (entries (read start.total) to least (count - i) reader.rest.now)
-
-  pub left_none : Left [] 0 0 start
-  left_none = let z : count - 0 ≡ count = omega arith in record { total = refl; same = rw z (sym (joined_nil all)) }
 
   module _ (xs : List ℕ) (least i : ℕ) (reader : Reader) (in' : i < count) (left : Left xs least i reader) where
     -- the next entry, and those after it
@@ -65,8 +58,3 @@ module _ (read : ℕ → ℕ → List ℕ → Reading ℕ) (to : ℕ → ℕ) (s
         → read_by see r after ≡ memory_or r all
     left_refused see r after f e h =
         refused_by see r after f all e (sym (next ∙ ap (λ r. joined xs (then r (λ x after. onto x (entries (read start.total) to (to x) (count - (i + 1)) after)))) (sym h)))
-
-  pub left_all : (xs : List ℕ) (least i : ℕ) (reader : Reader) → count ≤ i → Left xs least i reader → ◌≡◌ {A = Reading (List ℕ)} (Ok (xs, reader.rest.now)) all
-  left_all xs least i reader l left =
-      let z : count - i ≡ 0 = omega arith in
-      sym (left.same ∙ (ap (λ m. joined xs (entries (read start.total) to least m reader.rest.now)) z ∙ ap (λ zs. Ok (zs, reader.rest.now)) (append-nil xs)))

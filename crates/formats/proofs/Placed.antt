@@ -1,6 +1,5 @@
 -- Texts written into a buffer one after another.
 use Rattle.std.proofs.Common.{◌≡◌, ℕ, ◌+◌, ◌-◌, ◌^◌, ◌<◌, ◌≤◌, List, [], ◌++◌, length, take, drop, sym, refl, ap, ◌∙◌, min, append_assoc, add-zero, add_assoc, arith, length-append, length-drop}
-use borrow.Rule.Slice.PartMut.{put_mid}
 use Rattle.std.proofs.lemmas.List.{length-take-le, take_at, drop_at, drop-drop, take-append-drop}
 use Rattle.formats.specs.declared.report.cursor.Cursor.{Cursor}
 use Rattle.formats.specs.Reports.{placed, Wrote}

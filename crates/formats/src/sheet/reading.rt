@@ -21,7 +21,8 @@ fn read_capacities(heap: Global, reader: &mut Reader<'_>, count: u8) -> Result<V
     Ok(levels)
 }
 
-// `count` rising numbers.
+// `count` rising numbers. A loop of its own, since each number is read by the one before it and each capacity by none:
+// one function for both would take a closure over the reader.
 fn read_rising(heap: Global, reader: &mut Reader<'_>, count: u8) -> Result<Vec<u16>, SheetFault>
     ensures read { read_by items result reader.new ≡ memory_or result (rising reader.old.total count reader.old.rest.now) }
     ensures total { reader.new.total ≡ reader.old.total }
