@@ -1,10 +1,8 @@
-pub mod Items
 pub mod Entries
 pub mod Fair
 pub mod SheetLaw
 pub mod Cuts
 pub mod Numbers
-pub mod Said
 pub mod Judged
 pub mod TraceLaw
 pub mod Placed

@@ -1,5 +1,5 @@
 use Rattle.formats.proofs.SheetLaw.{told_rightly}
 use Rattle.formats.proofs.sheet.reading.read_sheet.Goals as goal
 
-pub returns : goal.returns
-returns c = record { answer = c.read_all.ensures; told = told_rightly c.args.sheet.now }
+pub returns-clause-told : goal.returns-clause-told
+returns-clause-told c = told_rightly c.args.sheet.now
