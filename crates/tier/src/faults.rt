@@ -6,6 +6,7 @@ ghost use Rattle.tier.specs.Refusals.{lift_number_of, dropped_number_of, fault_r
 
 use crate::victim::Victim;
 use device::DeviceFault;
+use refusal::Refusal;
 use row::Mark;
 
 // Why a lift was refused.
@@ -43,25 +44,26 @@ pub struct Dropped {
     pub level: u8,
 }
 
-impl LiftFault {
-    // The number by which the refusal is told.
-    pub fn number(self) -> u8
-        ensures { result ≡ lift_number_of self }
-    {
+impl Refusal for LiftFault {
+    ghost number_of = { lift_number_of };
+
+    fn number(self) -> u8 {
         match self {
             LiftFault::Length => 1,
         }
     }
 }
 
-impl Dropped {
-    // The number by which the refusal is told; the one inside it is the fault's own.
-    pub fn number(self) -> u8
-        ensures { result ≡ dropped_number_of self }
-    {
+impl Refusal for Dropped {
+    ghost number_of = { dropped_number_of };
+
+    // The number inside it is the fault's own.
+    fn number(self) -> u8 {
         5
     }
+}
 
+impl Dropped {
     // The same, seen from one level higher.
     pub fn raised(self) -> Dropped
         ensures { result ≡ told_drop (higher self) }
@@ -88,8 +90,8 @@ impl DemoteFault {
         ensures { result ≡ fault_raised self }
     {
         match self {
-            DemoteFault::Length(victim) => DemoteFault::Length(victim),
             DemoteFault::Dropped(dropped) => DemoteFault::Dropped(dropped.raised()),
+            length => length,
         }
     }
 }

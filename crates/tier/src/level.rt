@@ -63,10 +63,9 @@ impl<T: Tier> Level<T> {
         ensures row { kept self.new.row ≡ left (kept self.old.row) }
         ensures below { self.new.below ≡ self.old.below }
     {
-        match self.row.eject(buffer) {
-            Some(tag) => Some(Victim::new(tag.number, tag.mark)),
-            None => None,
-        }
+        self.row
+            .eject(buffer)
+            .map(|tag| Victim::new(tag.number, tag.mark))
     }
 
     // Loses the row's entry of a number and ejects the last of what is left where the row is full: there is room then.
@@ -101,10 +100,9 @@ impl<T: Tier> Level<T> {
         ensures row { self.new.row ≡ self.old.row }
         ensures loans { T.Tier.loans self.new.below ≡ T.Tier.loans self.old.below }
     {
-        match self.below.demote(victim, bytes) {
-            Ok(()) => Ok(()),
-            Err(fault) => Err(fault.raised()),
-        }
+        self.below
+            .demote(victim, bytes)
+            .map_err(DemoteFault::raised)
     }
 
     // Takes a block in hand into the row, and hands down what has to leave it.
@@ -136,11 +134,7 @@ impl<T: Tier> Level<T> {
         ensures row { self.new.row ≡ self.old.row }
         ensures loans { T.Tier.loans self.new.below ≡ T.Tier.loans self.old.below }
     {
-        match self.below.lift(b, buffer) {
-            Ok(Some(lifted)) => Ok(Some(lifted.deeper())),
-            Ok(None) => Ok(None),
-            Err(fault) => Err(fault),
-        }
+        Ok(self.below.lift(b, buffer)?.map(Lifted::deeper))
     }
 
     // Saves the entry in a slot unless it is saved.
@@ -159,17 +153,15 @@ impl<T: Tier> Level<T> {
         if tag.mark.is_saved() {
             return Ok(());
         }
-        match self.below.save(tag.number, self.row.bytes(slot)) {
-            Ok(()) => {
-                self.row.mark_saved(slot);
-                Ok(())
-            }
-            Err(fault) => Err(Dropped {
+        self.below
+            .save(tag.number, self.row.bytes(slot))
+            .map_err(|fault| Dropped {
                 block: tag.number,
                 fault,
                 level: 1,
-            }),
-        }
+            })?;
+        self.row.mark_saved(slot);
+        Ok(())
     }
 
     // Saves the row's unsaved entries, from its front on, up to the first save that is refused.
@@ -249,9 +241,6 @@ impl<T: Tier> Tier for Level<T> {
 
     fn sync(&mut self) -> Result<(), Dropped> {
         self.sync_row()?;
-        match self.below.sync() {
-            Ok(()) => Ok(()),
-            Err(dropped) => Err(dropped.raised()),
-        }
+        self.below.sync().map_err(Dropped::raised)
     }
 }
