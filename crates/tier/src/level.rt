@@ -56,8 +56,7 @@ impl<T> Level<T> {
 
 impl<T: Tier> Level<T> {
     // Ejects the last entry of a full row into the buffer: a block in hand, owed to the tier below.
-    fn eject(&mut self, buffer: &mut [u8]) -> Option<Victim>
-        requires { length buffer.old ≡ 256 }
+    fn eject(&mut self, buffer: &mut [u8; BLOCK]) -> Option<Victim>
         ensures answer { result ≡ option_map victim_of (leaving (kept self.old.row)) }
         ensures buffer { buffer.new ≡ contents (leaving (kept self.old.row)) buffer.old }
         ensures row { kept self.new.row ≡ left (kept self.old.row) }
@@ -69,8 +68,7 @@ impl<T: Tier> Level<T> {
     }
 
     // Loses the row's entry of a number and ejects the last of what is left where the row is full: there is room then.
-    fn make_room(&mut self, number: u32, buffer: &mut [u8]) -> Option<Victim>
-        requires { length buffer.old ≡ 256 }
+    fn make_room(&mut self, number: u32, buffer: &mut [u8; BLOCK]) -> Option<Victim>
         ensures answer { result ≡ option_map victim_of (leaving (lost_in number (kept self.old.row))) }
         ensures buffer { buffer.new ≡ contents (leaving (lost_in number (kept self.old.row))) buffer.old }
         ensures row { kept self.new.row ≡ left (lost_in number (kept self.old.row)) }
@@ -83,10 +81,9 @@ impl<T: Tier> Level<T> {
     }
 
     // Takes an entry in front of the row, which has room for it and none of that number.
-    fn put_front(&mut self, number: u32, bytes: &[u8], mark: Mark)
+    fn put_front(&mut self, number: u32, bytes: &[u8; BLOCK], mark: Mark)
         requires room { length (kept self.old.row).entries < (kept self.old.row).capacity }
         requires fresh { sought number (kept self.old.row).entries ≡ None }
-        requires whole { length bytes.now ≡ 256 }
         ensures row { kept self.new.row ≡ holding (record { number = number; bytes = bytes.now; mark = mark } ∷ (kept self.old.row).entries) (kept self.old.row) }
         ensures below { self.new.below ≡ self.old.below }
     {
@@ -106,8 +103,7 @@ impl<T: Tier> Level<T> {
     }
 
     // Takes a block in hand into the row, and hands down what has to leave it.
-    fn take_in(&mut self, victim: Victim, bytes: &[u8]) -> Result<(), DemoteFault>
-        requires { length bytes.now ≡ 256 }
+    fn take_in(&mut self, victim: Victim, bytes: &[u8; BLOCK]) -> Result<(), DemoteFault>
         ensures answer { result ≡ dropped_answer (demotion (level_model (kept self.old.row) (T.Tier.model self.old.below)) victim bytes.now).dropped }
         ensures after { level_model (kept self.new.row) (T.Tier.model self.new.below) ≡ model_of (demotion (level_model (kept self.old.row) (T.Tier.model self.old.below)) victim bytes.now) }
         ensures loans { T.Tier.loans self.new.below ≡ T.Tier.loans self.old.below }
@@ -233,10 +229,10 @@ impl<T: Tier> Tier for Level<T> {
     }
 
     fn demote(&mut self, victim: Victim, bytes: &[u8]) -> Result<(), DemoteFault> {
-        if bytes.len() != BLOCK {
-            return Err(DemoteFault::Length(victim));
+        match <&[u8; BLOCK]>::try_from(bytes) {
+            Ok(bytes) => self.take_in(victim, bytes),
+            Err(_) => Err(DemoteFault::Length(victim)),
         }
-        self.take_in(victim, bytes)
     }
 
     fn sync(&mut self) -> Result<(), Dropped> {
