@@ -8,6 +8,8 @@ use crate::victim::Victim;
 use device::DeviceFault;
 use refusal::Refusal;
 use row::Mark;
+use std::error::Error;
+use std::fmt;
 
 // Why a lift was refused.
 #[derive(Clone, Copy, PartialEq, Eq, Debug)]
@@ -62,6 +64,21 @@ impl Refusal for Dropped {
         5
     }
 }
+
+// The block and its refusal, by number.
+impl fmt::Display for Dropped {
+    fn fmt<W: fmt::Write>(&self, f: &mut fmt::Formatter<W>) -> fmt::Result {
+        write!(
+            f,
+            "block {}, inside {}, level {}",
+            self.block,
+            self.fault.number(),
+            self.level
+        )
+    }
+}
+
+impl Error for Dropped {}
 
 impl Dropped {
     // The same, seen from one level higher.

@@ -110,15 +110,11 @@ impl<T: Tier> Level<T> {
     {
         let mut buffer = [0u8; BLOCK];
         let (number, mark) = victim.open();
-        match self.make_room(number, &mut buffer) {
-            Some(last) => {
-                self.put_front(number, bytes, mark);
-                self.hand_down(last, &buffer)
-            }
-            None => {
-                self.put_front(number, bytes, mark);
-                Ok(())
-            }
+        let ejected = self.make_room(number, &mut buffer);
+        self.put_front(number, bytes, mark);
+        match ejected {
+            Some(last) => self.hand_down(last, &buffer),
+            None => Ok(()),
         }
     }
 
@@ -167,6 +163,7 @@ impl<T: Tier> Level<T> {
         ensures after { T.Tier.model self.new.below ≡ record { store = (swept (kept self.old.row).entries (T.Tier.model self.old.below).store).store; rows = (T.Tier.model self.old.below).rows } }
         ensures loans { T.Tier.loans self.new.below ≡ T.Tier.loans self.old.below }
     {
+        // No iterator: each step marks an entry of the row that is walked.
         let mut at = self.row.first_slot();
         while let Some(slot) = at {
             self.save_slot(slot)?;
