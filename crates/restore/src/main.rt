@@ -3,6 +3,7 @@
 
 use device::{Archive, Image, Source};
 use layers::RestoreFault;
+use refusal::Refusal;
 use restoring::restore_image;
 use std::fs::{File, OpenOptions};
 use std::io;
@@ -40,20 +41,15 @@ fn write_back(rt: &HostRuntime, path: &str, bytes: &[u8]) -> io::Result<()> {
 fn record(rt: &HostRuntime, outcome: Result<u32, RestoreFault>) -> io::Result<()> {
     match outcome {
         Ok(blocks) => println!(rt; "restored {blocks}"),
-        Err(fault) => {
-            let number = fault.number();
-            println!(rt; "refused {number}")
-        }
+        Err(fault) => println!(rt; "refused {}", fault.number()),
     }
 }
 
 fn run(rt: &HostRuntime) -> anyhow::Result<()> {
     let archive = read_all(rt, ARCHIVE)?;
     let mut image = read_all(rt, IMAGE)?;
-    let source = Archive::new(&archive).blocks();
-    let device = Image::new(&mut image).blocks();
-    println!(rt; "source blocks {source}")?;
-    println!(rt; "device blocks {device}")?;
+    println!(rt; "source blocks {}", Archive::new(&archive).blocks())?;
+    println!(rt; "device blocks {}", Image::new(&mut image).blocks())?;
     let outcome = restore_image(&archive, &mut image);
     if let Ok(1..) = outcome {
         write_back(rt, IMAGE, &image)?;
