@@ -44,12 +44,14 @@ fn print_compared<F: Tier, S: Tier>(
     second: Layout<'_, S>,
 ) -> anyhow::Result<()> {
     match compare(rt.alloc(), first, second) {
-        Ok(Comparison {
-            first,
-            second,
-            sound,
-            verdict,
-        }) => {
+        Ok(
+            Comparison {
+                first,
+                second,
+                sound,
+                verdict,
+            },
+        ) => {
             print!(rt; "sums {first} and {second} of {sound} sound blocks")?;
             print_verdict(rt, verdict)
         }
@@ -63,10 +65,12 @@ fn telling_reads(
     answer: Result<Comparison, CompareFault>,
 ) -> Result<Vec<Call>, AllocError> {
     let mut calls = Vec::new(heap);
-    if let Ok(Comparison {
-        verdict: Verdict::Differ(reads),
-        ..
-    }) = &answer
+    if let Ok(
+        Comparison {
+            verdict: Verdict::Differ(reads),
+            ..
+        },
+    ) = &answer
     {
         for b in reads {
             calls.push(Call::Read(*b))?;

@@ -23,7 +23,10 @@ fn mount_answer<T: Tier>(tier: T) -> (Result<(), MountFault>, T) {
 fn mount<T: Tier + Drop>(rt: &HostRuntime, tier: T) -> anyhow::Result<T> {
     let (answer, back) = mount_answer(tier);
     let (levels, blocks) = (back.levels(), back.blocks());
-    println!(rt; "mount of {levels} levels over {blocks} blocks: {}", told(answer))?;
+    println!(rt;
+        "mount of {levels} levels over {blocks} blocks: {}",
+        told(answer)
+    )?;
     Ok(back)
 }
 
