@@ -1,19 +1,23 @@
 -- Summing capacities and counting sound blocks, one by one.
-use Rattle.std.proofs.Common.{◌≡◌, ℕ, zero, suc, ◌+◌, ◌≤◌, min, Bool, true, false, List, [], ◌∷◌, length, take, Some, None, sym, ap, ◌∙◌, inl, inr, add-one, arith}
-use Rattle.std.specs.List.{AllByRecursion as All}
+use Rattle.std.proofs.Common.{◌≡◌, ℕ, zero, suc, ◌+◌, ◌≤◌, min, Bool, cond, List, [], ◌∷◌, length, take, Some, None, sym, refl, ap, ◌∙◌, inl, inr, add-one, add-zero, zero-add, arith}
+use Rattle.std.specs.List.{AllByRecursion as All, filter, range_with_len}
 use Rattle.std.proofs.lemmas.List.{take_all}
-use Rattle.std.proofs.lemmas.Bool.{cases_lt, ne_eqb}
+use Rattle.std.proofs.lemmas.Bool.{cases_Bool, cases_lt, ne_eqb}
 use Rattle.row.specs.Entries.{RowModel}
 use Rattle.tier.specs.Models.{LawfulRow}
 use Rattle.tier.specs.Questions.{capacity_of}
 use Rattle.pile.specs.Recency.{room, count_below}
 
--- one more number counted
-pub count_yes : (f : ℕ → Bool) (n : ℕ) → f n ≡ true → count_below f (n + 1) ≡ count_below f n + 1
-count_yes f n h = rw (add-one, h) (omega arith)
+-- the numbers of a range that pass a test are as many as are counted
+passing_last : (f : ℕ → Bool) (a n : ℕ) → length (filter f (range_with_len a (suc n))) ≡ cond (f (a + n)) 1 0 + length (filter f (range_with_len a n))
+passing_last f a zero = elim (cases_Bool (f a)) [ inl h ↦ rw (h, ap f (add-zero a) ∙ h) | inr h ↦ rw (h, ap f (add-zero a) ∙ h) ]
+passing_last f a (suc n) =
+    let e : f (a + suc n) ≡ f (a + 1 + n) = ap f (omega arith) in
+    rw e (elim (cases_Bool (f a)) [ inl h ↦ rw h (omega (arith, passing_last f (a + 1) n)) | inr h ↦ rw h (passing_last f (a + 1) n) ])
 
-pub count_no : (f : ℕ → Bool) (n : ℕ) → f n ≡ false → count_below f (n + 1) ≡ count_below f n
-count_no f n h = rw (add-one, h) (omega arith)
+pub count_passing : (f : ℕ → Bool) (n : ℕ) → length (filter f (range_with_len 0 n)) ≡ count_below f n
+count_passing f zero = refl
+count_passing f (suc n) = passing_last f 0 n ∙ (λ i. cond (f (zero-add n i)) 1 0 + count_passing f n i)
 
 capacity_deeper : (r : RowModel) (rs : List RowModel) (i : ℕ) → capacity_of (r ∷ rs) (suc (suc i)) ≡ capacity_of rs (suc i)
 capacity_deeper r rs i = rw (ne_eqb (suc (suc i)) 1 (λ e. omega arith)) (ap (λ j. capacity_of rs j) (omega arith))

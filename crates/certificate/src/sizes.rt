@@ -22,11 +22,5 @@ pub fn sum_of<T: Tier>(tier: &T, count: u32) -> u32
 pub fn sound_count<T: Tier>(tier: &T) -> u32
     ensures { result ≡ sounds (T.Tier.model tier.now).store }
 {
-    let mut count = 0;
-    for b in 0..tier.blocks() {
-        if tier.is_sound(b) {
-            count += 1;
-        }
-    }
-    count
+    (0..tier.blocks()).filter(|b| tier.is_sound(*b)).count() as u32
 }
