@@ -1,5 +1,5 @@
 -- Taking the numbers that pass a test from the greatest down.
-use Rattle.std.proofs.Common.{◌≡◌, ℕ, zero, suc, ◌+◌, ◌-◌, ◌<◌, Bool, true, false, List, [], ◌∷◌, ◌++◌, take, sym, ap, ◌∙◌, append_assoc, append-nil, arith}
+use Rattle.std.proofs.Common.{◌≡◌, ℕ, zero, suc, ◌+◌, ◌-◌, ◌<◌, Bool, true, false, List, [], ◌∷◌, ◌++◌, take, sym, ap, ◌∙◌, append_assoc, arith}
 use Rattle.pile.specs.Reads.{passing}
 
 module _ (f : ℕ → Bool) where
@@ -27,10 +27,3 @@ pub one_moved : (xs ys zs : List ℕ) (x count had : ℕ) → had < count → xs
 one_moved xs ys zs x count had h q =
     let e : count - had ≡ suc (count - (had + 1)) = omega arith in
     sym (moved xs ys x (count - (had + 1))) ∙ (ap (λ m. xs ++ take m (x ∷ ys)) (sym e) ∙ q)
-
-pub none_left : (xs : List ℕ) (m : ℕ) → xs ++ take m [] ≡ xs
-none_left xs zero = append-nil xs
-none_left xs (suc m) = append-nil xs
-
-pub none_wanted : (xs ys : List ℕ) (m : ℕ) → m ≡ 0 → xs ++ take m ys ≡ xs
-none_wanted xs ys m e = ap (λ n. xs ++ take n ys) e ∙ append-nil xs

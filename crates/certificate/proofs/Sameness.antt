@@ -2,11 +2,11 @@
 use Rattle.std.proofs.Common.{◌≡◌, ℕ, zero, suc, ◌<◌, Bool, true, false, eqb, List, Ok, Decides, sym, refl, ◌∙◌, subst, inl, inr, arith}
 use Rattle.std.specs.Str.{bytes_eq}
 use Rattle.std.proofs.lemmas.Slice.Eq.{bytes_eq-Decides}
-use Rattle.std.proofs.lemmas.Bool.{cases_Bool, cases_lt, and_parts, and_from, and_right, eqb-true, eq-eqb, not-true, true≢false}
+use Rattle.std.proofs.lemmas.Bool.{cases_Bool, cases_lt, and_parts, and_from, eqb-true, eq-eqb, not-true, true≢false}
 use Rattle.device.specs.Answers.{answer}
 use Rattle.device.specs.Below.{all_below}
 use Rattle.device.specs.Store.{Store, Lawful, ReadAlike}
-use Rattle.device.proofs.Below.{all_at, all_broken}
+use Rattle.device.proofs.Below.{all_at}
 use Rattle.device.proofs.Outcomes.{admitted as passed}
 use Rattle.certificate.specs.Devices.{same_block, same_devices}
 
@@ -21,10 +21,6 @@ both_read s t b x y r h k p q d =
     let u = (passed t b 256 k).usable in
     rw (h, u) (same_decisions r (bytes_eq (s.at b) (t.at b)) (x ≡ y) d
     (λ e. p ∙ ((bytes_eq-Decides (s.at b) (t.at b)).0 e ∙ sym q), λ e. (bytes_eq-Decides (s.at b) (t.at b)).1 (sym p ∙ (e ∙ q))))
-
--- a block that is not the same
-pub told_apart : (s t : Store) (b : ℕ) → b < s.size → same_block s t b ≡ false → same_devices s t ≡ false
-told_apart s t b l h = and_right (eqb s.size t.size) (all_below (same_block s t) s.size) (all_broken (same_block s t) b s.size l h)
 
 module _ (s t : Store) (l : Lawful s) (k : Lawful t) where
   past : (b : ℕ) (u : Store) → Lawful u → u.size ≡ s.size → (b < s.size → ⊥) → u.sound b ≡ false

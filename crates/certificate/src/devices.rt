@@ -25,13 +25,5 @@ pub fn same_devices<F: Tier, S: Tier>(first: &F, second: &S) -> bool
     ensures { result ≡ all_same (F.Tier.model first.now).store (S.Tier.model second.now).store }
 {
     let blocks = first.blocks();
-    if blocks != second.blocks() {
-        return false;
-    }
-    for b in 0..blocks {
-        if !same_block(first, second, b) {
-            return false;
-        }
-    }
-    true
+    blocks == second.blocks() && (0..blocks).all(|b| same_block(first, second, b))
 }

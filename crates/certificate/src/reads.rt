@@ -11,11 +11,12 @@ fn greatest_sound<T: Tier>(heap: Global, tier: &T, count: usize) -> Result<Vec<u
     ensures { IfOk result (λ v. items v ≡ take count (passing (T.Tier.model tier.now).store.sound (T.Tier.model tier.now).store.size)) }
 {
     let mut found = Vec::new(heap);
-    let mut left = tier.blocks();
-    while left > 0 && found.len() < count {
-        left -= 1;
-        if tier.is_sound(left) {
-            found.push(left)?;
+    for b in (0..tier.blocks()).rev() {
+        if found.len() == count {
+            break;
+        }
+        if tier.is_sound(b) {
+            found.push(b)?;
         }
     }
     Ok(found)

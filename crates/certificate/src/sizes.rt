@@ -9,24 +9,14 @@ pub fn sum_of<T: Tier>(tier: &T, count: u32) -> u32
     requires { length (T.Tier.model tier.now).rows ≤ 8 }
     ensures { result ≡ summed (T.Tier.model tier.now) count }
 {
-    let mut sum = 0;
-    for above in 0..count.min(8) {
-        if let Some(capacity) = tier.capacity(above + 1) {
-            sum += capacity;
-        }
-    }
-    sum
+    (0..count.min(8))
+        .filter_map(|above| tier.capacity(above + 1))
+        .sum()
 }
 
 // How many of the stored blocks are sound.
 pub fn sound_count<T: Tier>(tier: &T) -> u32
     ensures { result ≡ sounds (T.Tier.model tier.now).store }
 {
-    let mut count = 0;
-    for b in 0..tier.blocks() {
-        if tier.is_sound(b) {
-            count += 1;
-        }
-    }
-    count
+    (0..tier.blocks()).filter(|b| tier.is_sound(*b)).count() as u32
 }

@@ -4,10 +4,11 @@ ghost use Rattle.std.specs.Prelude.{◌≡◌, ◌≤◌, length};
 // The most levels that a pile has.
 pub const LEVELS: usize = 8;
 
-// The touches that each level served, top first, and those that none did.
+// The touches that each level served, top first, and those that none did. An array and a length, and no `ArrayVec`: that one is
+// no `Copy` and its clone can fail, while tallies are copied out of a pile.
 #[derive(Clone, Copy)]
 pub struct Tallies {
-    hits: [u32; 8],
+    hits: [u32; LEVELS],
     levels: usize,
     floor: u32,
     ghost wide: { length hits ≡ 8 },

@@ -1,28 +1,23 @@
-use Rattle.std.proofs.Common.{◌≡◌, ◌+◌, ◌≤◌, take, Some, sym, ap, ◌∙◌, arith}
+use Rattle.std.proofs.Common.{◌+◌, ap, ◌∙◌, take, rules, tests, arith}
+use Rattle.std.proofs.lemmas.Iterator.{YieldsList-from_range}
+use Rattle.std.proofs.lemmas.Iterator.Consumers.{YieldsList-from_filter_map, sum_from_yields_List, fits_from_yields_list}
 use Rattle.tier.specs.Questions.{capacity_of}
 use Rattle.pile.specs.Recency.{room}
-use Rattle.certificate.proofs.Counting.{room_some, room_none, bounded, room_all}
+use Rattle.certificate.proofs.Counting.{capacities_room, bounded, room_all}
 use Rattle.certificate.proofs.sizes.sum_of.Goals as goal
-use Rattle.certificate.proofs.sizes.sum_of.Goals.{in-Some, in_default}
 
-pub overflow_add-sum : goal.overflow_add-sum
-overflow_add-sum g c =
+pub sum-requires-clause-fits : goal.sum-requires-clause-fits
+sum-requires-clause-fits g c =
     let rows = (g.T.Tier.model c.args.tier.now).rows in
-    let b : c.in-Some.capacity ≤ 65536 = bounded rows c.loop-above.above c.in-Some.capacity (g.T.Tier.lawful c.args.tier.now).rows (sym c.in-Some.ensures) in
-    omega (arith, b, c.loop-above.invariant.1, c.loop-above-test.true, c.min-above-end.ensures)
-
-pub loop-above-preserved : goal.loop-above-preserved
-loop-above-preserved g c =
-    let rows = (g.T.Tier.model c.args.tier.now).rows in
-    elim c.match-capacity.branch [
-      | in-Some w ↦
-          let q : capacity_of rows (c.loop-above.above + 1) ≡ Some w.in-Some.capacity = sym w.in-Some.ensures in
-          let b : w.in-Some.capacity ≤ 65536 = bounded rows c.loop-above.above w.in-Some.capacity (g.T.Tier.lawful c.args.tier.now).rows q in
-          (omega (arith, w.sum-is, c.loop-above.invariant.0, room_some rows c.loop-above.above w.in-Some.capacity q), omega (arith, w.sum-is, b, c.loop-above.invariant.1))
-      | in_default w ↦ (omega (arith, w.sum-is, c.loop-above.invariant.0, room_none rows c.loop-above.above (sym w.in_default.ensures)), omega (arith, w.sum-is, c.loop-above.invariant.1))
-    ]
+    let n = c.min.result in
+    fits_from_yields_list c.filter_map.result _ (YieldsList-from_filter_map _ (λ i. capacity_of rows (i + 1))
+    (YieldsList-from_range 0 n n c.filter_map.ensures.source (omega arith)) c.filter_map.ensures.closure (λ x r q k. search (rules, tests)))
+    (omega (arith, capacities_room rows n, bounded rows n (g.T.Tier.lawful c.args.tier.now).rows, c.min.ensures))
 
 pub returns : goal.returns
 returns g c =
     let rows = (g.T.Tier.model c.args.tier.now).rows in
-    c.loop-above.invariant.0 ∙ (ap (λ n. room (take n rows)) (omega (arith, c.loop-above-test.false, c.loop-above.auto.above-end, c.min-above-end.ensures)) ∙ room_all rows c.args.count c.requires)
+    let n = c.min.result in
+    sum_from_yields_List c.filter_map.result c.sum.result c.sum.ensures.ran (YieldsList-from_filter_map _ (λ i. capacity_of rows (i + 1))
+    (YieldsList-from_range 0 n n c.filter_map.ensures.source (omega arith)) c.filter_map.ensures.closure (λ x r q k. search (rules, tests)))
+    ∙ (capacities_room rows n ∙ (ap (λ m. room (take m rows)) c.min.ensures ∙ room_all rows c.args.count c.requires))
