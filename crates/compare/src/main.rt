@@ -5,9 +5,8 @@
 use anyhow::anyhow;
 use certificate::{CompareFault, Comparison, Verdict};
 use comparing::{LayoutFault, compare_sheets};
+use files::read_some;
 use formats::SheetFault;
-use std::fs::File;
-use std::io::{ErrorKind, Read};
 use std::{env, io};
 
 const USAGE: &str = "usage: compare FIRST.sheet SECOND.sheet [LEVELS LEVELS]";
@@ -24,22 +23,6 @@ const SHEET_BYTES: u64 = 64;
 
 // As many levels as a sheet can list: all of them.
 const ALL: u32 = 4;
-
-// The first bytes of a file, up to so many; a missing file has none.
-fn read_some(rt: &HostRuntime, path: &str, most: u64) -> io::Result<Vec<u8>> {
-    let mut bytes = Vec::new(rt.alloc());
-    match File::open(rt, path) {
-        Ok(file) => {
-            file.take(most).read_to_end(&mut bytes)?;
-        }
-        Err(e) => {
-            if e.kind() != ErrorKind::NotFound {
-                return Err(e);
-            }
-        }
-    }
-    Ok(bytes)
-}
 
 // A trace of the reads that tell the layouts apart.
 fn print_trace(rt: &HostRuntime, reads: &[u32]) -> io::Result<()> {

@@ -3,11 +3,11 @@
 #![tactic(auto)]
 
 use anyhow::anyhow;
+use files::{read_some, write_over};
 use formats::{Images, SheetFault, TraceFault, read_sheet, write_report};
 use replaying::{ReplayFault, Replayed, replay};
-use std::fs::{File, OpenOptions};
 use std::io;
-use std::io::{ErrorKind, Read, Write};
+use std::io::{Read, Write};
 
 const SHEET: &str = "pile.sheet";
 
@@ -29,37 +29,10 @@ const SHEET_BYTES: u64 = 64;
 // A report of four levels has fewer bytes.
 const REPORT_BYTES: usize = 1024;
 
-// The first bytes of a file, up to so many; a missing file has none.
-fn read_some(rt: &HostRuntime, path: &str, most: u64) -> io::Result<Vec<u8>> {
-    let mut bytes = Vec::new(rt.alloc());
-    match File::open(rt, path) {
-        Ok(file) => {
-            file.take(most).read_to_end(&mut bytes)?;
-        }
-        Err(e) => {
-            if e.kind() != ErrorKind::NotFound {
-                return Err(e);
-            }
-        }
-    }
-    Ok(bytes)
-}
-
 fn read_trace(rt: &HostRuntime) -> io::Result<Vec<u8>> {
     let mut bytes = Vec::new(rt.alloc());
     rt.stdin().take(TRACE_BYTES).read_to_end(&mut bytes)?;
     Ok(bytes)
-}
-
-// Writes the bytes over the file's first ones, which are as many. Where there are none there is nothing to write.
-fn write_back(rt: &HostRuntime, path: &str, bytes: &[u8]) -> io::Result<()> {
-    if bytes.is_empty() {
-        return Ok(());
-    }
-    OpenOptions::new()
-        .write(true)
-        .open(rt, path)?
-        .write_all(bytes)
 }
 
 // Whether the sheet lists a second image.
@@ -112,8 +85,8 @@ fn run(rt: &HostRuntime) -> anyhow::Result<()> {
     let trace = read_trace(rt)?;
     match replay(rt.alloc(), &sheet, &mut first, &mut second, &trace) {
         Ok(told) => {
-            write_back(rt, FIRST, &first)?;
-            write_back(rt, SECOND, &second)?;
+            write_over(rt, FIRST, &first)?;
+            write_over(rt, SECOND, &second)?;
             print_report(rt, &told)
         }
         Err(fault) => print_refusal(rt, fault),
