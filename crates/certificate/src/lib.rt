@@ -2,8 +2,10 @@
 #![tactic(auto)]
 
 mod devices;
+mod layout;
 mod reads;
 mod sizes;
 mod weighing;
 
+pub use layout::Layout;
 pub use weighing::{CompareFault, Comparison, Verdict, compare};

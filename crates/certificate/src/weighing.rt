@@ -6,6 +6,7 @@ ghost use Rattle.certificate.specs.Weighings.{pair_answer as checked, judged, se
 ghost use Rattle.pile.specs.Reads.{telling as told};
 
 use crate::devices::same_devices;
+use crate::layout::Layout;
 use crate::reads::telling;
 use crate::sizes::{sound_count, sum_of};
 use pile::{MountFault, check_mount};
@@ -55,12 +56,8 @@ impl From<AllocError> for CompareFault {
 fn check_pair<F: Tier, S: Tier>(first: &F, second: &S) -> Result<(), CompareFault>
     ensures { result ≡ checked (F.Tier.model first.now) (S.Tier.model second.now) }
 {
-    if let Err(fault) = check_mount(first) {
-        return Err(CompareFault::First(fault));
-    }
-    if let Err(fault) = check_mount(second) {
-        return Err(CompareFault::Second(fault));
-    }
+    check_mount(first).map_err(CompareFault::First)?;
+    check_mount(second).map_err(CompareFault::Second)?;
     if !same_devices(first, second) {
         return Err(CompareFault::Devices);
     }
@@ -87,18 +84,16 @@ fn judge<T: Tier>(
 // Sums and counts, and judges by them.
 fn weigh<F: Tier, S: Tier>(
     heap: Global,
-    first: &F,
-    j: u32,
-    second: &S,
-    k: u32,
+    first: Layout<F>,
+    second: Layout<S>,
 ) -> Result<Comparison, CompareFault>
-    ensures { seen result ≡ memory_or result (answered (F.Tier.model first.now) j (S.Tier.model second.now) k) }
+    ensures { seen result ≡ memory_or result (answered (F.Tier.model first.entry.tier.now) first.entry.levels (S.Tier.model second.entry.tier.now) second.entry.levels) }
 {
-    check_pair(first, second)?;
-    let one = sum_of(first, j);
-    let other = sum_of(second, k);
-    let sound = sound_count(first);
-    let verdict = judge(heap, first, one, other, sound)?;
+    check_pair(first.tier, second.tier)?;
+    let one = sum_of(first.tier, first.levels);
+    let other = sum_of(second.tier, second.levels);
+    let sound = sound_count(first.tier);
+    let verdict = judge(heap, first.tier, one, other, sound)?;
     Ok(Comparison {
         first: one,
         second: other,
@@ -111,13 +106,11 @@ fn weigh<F: Tier, S: Tier>(
 // carries the laws of both tiers over every list of reads, writes and syncs, and ties the verdict to them.
 pub fn compare<F: Tier, S: Tier>(
     heap: Global,
-    first: &F,
-    j: u32,
-    second: &S,
-    k: u32,
+    first: Layout<F>,
+    second: Layout<S>,
 ) -> Result<Comparison, CompareFault>
-    ensures answer { seen result ≡ memory_or result (answered (F.Tier.model first.now) j (S.Tier.model second.now) k) }
-    ensures certificate { Certificate (F.Tier.model first.now) j (S.Tier.model second.now) k result }
+    ensures answer { seen result ≡ memory_or result (answered (F.Tier.model first.entry.tier.now) first.entry.levels (S.Tier.model second.entry.tier.now) second.entry.levels) }
+    ensures certificate { Certificate (F.Tier.model first.entry.tier.now) first.entry.levels (S.Tier.model second.entry.tier.now) second.entry.levels result }
 {
-    weigh(heap, first, j, second, k)
+    weigh(heap, first, second)
 }

@@ -4,6 +4,6 @@ use Rattle.certificate.proofs.weighing.compare.Goals as goal
 pub returns : goal.returns
 returns g c = record {
   answer = c.weigh.ensures;
-  certificate = certify (g.F.Tier.model c.args.first.now) (g.S.Tier.model c.args.second.now) (g.F.Tier.lawful c.args.first.now) (g.S.Tier.lawful c.args.second.now)
-      c.args.j c.args.k c.weigh.result c.weigh.ensures;
+  certificate = certify (g.F.Tier.model c.args.first.tier.now) (g.S.Tier.model c.args.second.tier.now) (g.F.Tier.lawful c.args.first.tier.now) (g.S.Tier.lawful c.args.second.tier.now)
+      c.args.first.levels c.args.second.levels c.weigh.result c.weigh.ensures;
 }
