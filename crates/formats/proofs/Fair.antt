@@ -1,10 +1,10 @@
 -- Readers that go from the left: what one has read stays read whatever follows, and before a broken rule nothing is broken.
-use Rattle.std.proofs.Common.{◌≡◌, ℕ, zero, suc, ◌+◌, ◌-◌, ◌*◌, ◌<◌, ◌≤◌, Bool, true, false, cond, ◌&&◌, eqb, leb, List, [], ◌∷◌, ◌++◌, length, get_or, Ok, Err, sym, refl, ap, ◌∙◌, inl, inr, append_assoc, arith}
+use Rattle.std.proofs.Common.{◌≡◌, ℕ, zero, suc, ◌+◌, ◌-◌, ◌*◌, ◌<◌, ◌≤◌, Bool, true, false, cond, ◌&&◌, eqb, leb, List, [], ◌∷◌, ◌++◌, length, get_or, Ok, Err, sym, refl, ap, ◌∙◌, inl, inr, append_assoc, subst, arith}
 use Rattle.std.proofs.lemmas.Bool.{cases_Bool, and_parts, leb-true}
 use Rattle.formats.specs.declared.sheet.Images.{Images}
 use Rattle.formats.specs.declared.sheet.Images.TheVariants.{Single, Striped}
 use Rattle.formats.specs.declared.sheet.SheetFault.TheVariants.{Cut, Broken, Extra, Memory}
-use Rattle.formats.specs.Sheets.{Reading, then, byte_within, number_from, entries, capacity, capacities, levels_of, single, striped, images_of, rising, defects_of, lists_of}
+use Rattle.formats.specs.Sheets.{Reading, then, byte_within, number_from, entries, capacity, capacities, levels_of, single, striped, images_of, rising, defects_of, Listed, lists_of}
 use Rattle.formats.specs.SheetLaws.{Lawful, LawfulUnit}
 
 -- an answer of the reader f on these bytes; Q holds of what it reads
@@ -156,3 +156,15 @@ fair_lists =
     (λ is u. fair_then Rising Lawful defects_of (λ ds n end. Ok (record { levels = ls; images = is; defects = ds }, end)) fair_defects
     (λ ds q. fair_pure Lawful (record { levels = ls; images = is; defects = ds })
     (record { few_levels = p.0; capacities = capacity_at ls p.1; unit = u; few_defects = q.0; rising = rising_at 0 ds q.1 }))))
+
+lawful_at : (n : ℕ) (bytes : List ℕ) (l : Listed) (end : List ℕ) (r : Reading Listed) → Fair-at Lawful lists_of n bytes r → ◌≡◌ {A = Reading Listed} (Ok (l, end)) r → Lawful l
+lawful_at n bytes l end r h e = (subst (λ r. Fair-at Lawful lists_of n bytes r) (sym e) h).0
+
+-- what the three sections list is lawful
+pub lists_lawful : (n : ℕ) (bytes : List ℕ) {ls : List ℕ} {more : List ℕ} {is : Images} {rest : List ℕ} {ds : List ℕ} {end : List ℕ} {t u : ℕ}
+    → ◌≡◌ {A = Reading (List ℕ)} (Ok (ls, more)) (levels_of n bytes) → t ≡ n → ◌≡◌ {A = Reading Images} (Ok (is, rest)) (images_of t more) → u ≡ t → ◌≡◌ {A = Reading (List ℕ)} (Ok (ds, end)) (defects_of u rest)
+    → Lawful (record { levels = ls; images = is; defects = ds })
+lists_lawful n bytes {ls} {more} {is} {rest} {ds} {end} a p b q d =
+    let b' : ◌≡◌ {A = Reading Images} (Ok (is, rest)) (images_of n more) = b ∙ ap (λ m. images_of m more) p in
+    let d' : ◌≡◌ {A = Reading (List ℕ)} (Ok (ds, end)) (defects_of n rest) = d ∙ ap (λ m. defects_of m rest) (q ∙ p) in
+    lawful_at n bytes (record { levels = ls; images = is; defects = ds }) end (lists_of n bytes) (fair_lists n bytes) (rw (← a, ← b', ← d'))

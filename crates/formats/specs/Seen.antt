@@ -1,25 +1,23 @@
 -- What a reader's answer says, whatever memory it lies in.
-use Rattle.std.specs.Prelude.{ℕ, List, Ok, Err, vec_items, Result}
-use Rattle.std.specs.Borrow.{Bor}
+use Rattle.std.specs.Prelude.{ℕ, List, ◌++◌, Some, Ok, Err, vec_items, codes, decimal, Option, Result}
 use Rattle.formats.specs.declared.sheet.SheetFault.{SheetFault}
 use Rattle.formats.specs.declared.sheet.SheetFault.TheVariants.{Cut, Broken, Extra, Memory}
 use Rattle.formats.specs.declared.sheet.Sheet.{Sheet}
+use Rattle.formats.specs.declared.sheet.reader.Reader.{Reader}
 use Rattle.formats.specs.Sheets.{Reading, Listed}
 
--- a value and the bytes after it
-abbrev pub seen : {X : Type 0} → Result (X × Bor (List ℕ)) SheetFault → Reading X
-seen (Ok p) = Ok (p.0, p.1.now)
-seen (Err e) = Err e
+-- what was read and the bytes that are left, where it is seen as what it lists
+abbrev pub read_by : {X Y : Type 0} → (X → Y) → Result X SheetFault → Reader → Reading Y
+read_by see (Ok x) after = Ok (see x, after.rest.now)
+read_by see (Err e) after = Err e
 
--- the bytes after the header
-abbrev pub seen_rest : Result (Bor (List ℕ)) SheetFault → Result (List ℕ) SheetFault
-seen_rest (Ok r) = Ok r.now
-seen_rest (Err e) = Err e
+abbrev pub read : {X : Type 0} → Result X SheetFault → Reader → Reading X
+read result after = read_by (λ x. x) result after
 
--- a list made in memory, and the bytes after it
-abbrev pub seen_by : {X Y : Type 0} → (X → Y) → Result (X × Bor (List ℕ)) SheetFault → Reading Y
-seen_by f (Ok p) = Ok (f p.0, p.1.now)
-seen_by f (Err e) = Err e
+-- the bytes that a reader has left
+abbrev pub left : Result Reader SheetFault → Result (List ℕ) SheetFault
+left (Ok reader) = Ok reader.rest.now
+left (Err e) = Err e
 
 -- what is told where there is memory enough; want of memory is told as such
 abbrev pub memory_or : {X Y : Type 0} → Result X SheetFault → Result Y SheetFault → Result Y SheetFault
@@ -36,3 +34,13 @@ listed s = record { levels = vec_items s.levels; images = s.images; defects = ve
 abbrev pub seen_sheet : Result Sheet SheetFault → Result Listed SheetFault
 seen_sheet (Ok s) = Ok (listed s)
 seen_sheet (Err e) = Err e
+
+-- a refusal's number and its offset, in words
+abbrev pub placed_fault : ℕ → ℕ → Option (List ℕ)
+placed_fault number at = Some (decimal number ++ (codes " at " ++ decimal at))
+
+abbrev pub fault_text : SheetFault → Option (List ℕ)
+fault_text (Cut o) = placed_fault 13 o
+fault_text (Broken o) = placed_fault 14 o
+fault_text (Extra o) = placed_fault 15 o
+fault_text Memory = Some (codes "no memory")

@@ -1,5 +1,6 @@
 -- What a reading of a sheet tells.
 use Rattle.std.specs.Prelude.{◌≡◌, ℕ, ◌<◌, ◌≤◌, List, length, take, Ok, Err, Result, slice_index}
+use Rattle.std.proofs.Props.{props}
 use Rattle.formats.specs.declared.sheet.Images.{Images}
 use Rattle.formats.specs.declared.sheet.Images.TheVariants.{Single, Striped}
 use Rattle.formats.specs.declared.sheet.SheetFault.{SheetFault}
@@ -17,6 +18,14 @@ pub record Lawful (l : Listed) : Type 0 where
   pub unit : LawfulUnit l.images
   pub few_defects : length l.defects ≤ 16
   pub rising : (j k : ℕ) → j < k → k < length l.defects → slice_index l.defects j < slice_index l.defects k
+
+-- there is one proof of that at most, so that a sheet may carry it
+unit_once : (images : Images) → IsProp (LawfulUnit images)
+unit_once Single = Prim.hlevel props
+unit_once (Striped u) = Prim.hlevel props
+
+pub lawful_once : (l : Listed) → IsProp (Lawful l)
+lawful_once l = Prim.hlevel (props, unit_once)
 
 -- An accepted sheet lists what it may. One that is cut is told at its length.
 -- Before a broken rule nothing is broken: the bytes before the offset have no fault but that they are cut there. Before extra bytes the sheet is lawful.

@@ -1,4 +1,6 @@
 // What a sheet lists, and why one is refused.
+ghost use Rattle.std.specs.Vec.{vec_items as items};
+ghost use Rattle.formats.specs.SheetLaws.{Lawful, lawful_once};
 
 // The images of a sheet.
 #[derive(Clone, Copy, PartialEq, Eq, Debug)]
@@ -8,7 +10,7 @@ pub enum Images {
     Striped(u8),
 }
 
-// What a sheet lists.
+// What a sheet lists: no more than it may list.
 #[derive(Drop)]
 pub struct Sheet {
     // The capacity of each level, top first.
@@ -16,6 +18,7 @@ pub struct Sheet {
     pub images: Images,
     // The numbers of the defective blocks, rising.
     pub defects: Vec<u16>,
+    pub ghost lawful: { Lawful (record { levels = items levels; images = images; defects = items defects }) } by { lawful_once (record { levels = items levels; images = images; defects = items defects }) },
 }
 
 // Why a sheet was refused, with the offset of the first fault.
@@ -31,6 +34,8 @@ pub enum SheetFault {
     Memory,
 }
 
+mod fault;
+mod reader;
 mod reading;
 
 pub use reading::read_sheet;

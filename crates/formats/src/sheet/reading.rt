@@ -1,195 +1,117 @@
-// Reading a sheet from the left, item by item.
+// The sections of a sheet, one after another.
 ghost use Rattle.std.specs.Prelude.{◌≡◌};
-ghost use Rattle.formats.specs.Sheets.{number_of as numbered, byte_within as within, number_from as from, after_header as headed, capacities, rising, levels_of, single, striped, images_of, defects_of, ended, sections, sheet_of};
-ghost use Rattle.formats.specs.SheetLaws.{ToldRightly};
-ghost use Rattle.formats.specs.Seen.{seen, seen_rest as left, seen_by, memory_or, seen_sheet, listed};
-ghost use Rattle.formats.specs.declared.sheet.SheetFault.TheVariants.{Memory};
 ghost use Rattle.std.specs.Vec.{vec_items as items};
+ghost use Rattle.formats.specs.Sheets.{capacities, rising, levels_of, single, striped, images_of, defects_of, lists_of, sections, sheet_of};
+ghost use Rattle.formats.specs.SheetLaws.{ToldRightly};
+ghost use Rattle.formats.specs.Seen.{read, read_by, memory_or, seen_sheet, listed};
 
+use crate::sheet::reader::Reader;
 use crate::sheet::{Images, Sheet, SheetFault};
-use std::alloc::{AllocFailed, Global};
-
-impl<T: Drop> From<AllocFailed<T>> for SheetFault {
-    ghost from_gives = { λ _ r. r ≡ Memory };
-
-    fn from(_refused: AllocFailed<T>) -> SheetFault {
-        SheetFault::Memory
-    }
-}
-
-impl SheetFault {
-    // The number by which the refusal is told; 0 for want of memory.
-    pub fn number(self) -> u8
-        ensures { result ≡ numbered self }
-    {
-        match self {
-            SheetFault::Cut(_) => 13,
-            SheetFault::Broken(_) => 14,
-            SheetFault::Extra(_) => 15,
-            SheetFault::Memory => 0,
-        }
-    }
-}
-
-// One byte from `low` to `high`, and what follows it, in a sheet of `total` bytes.
-fn byte_within(total: usize, low: u8, high: u8, rest: &[u8]) -> Result<(u8, &[u8]), SheetFault>
-    ensures { seen result ≡ within total low high rest.now }
-{
-    let [byte, after @ ..] = rest else {
-        return Err(SheetFault::Cut(total));
-    };
-    if *byte < low || *byte > high {
-        return Err(SheetFault::Broken(total.saturating_sub(rest.len())));
-    }
-    Ok((*byte, after))
-}
-
-// One number of two bytes, high byte first, not below `least`.
-fn number_from(total: usize, least: u32, rest: &[u8]) -> Result<(u16, &[u8]), SheetFault>
-    ensures { seen result ≡ from total least rest.now }
-{
-    let [high, low, after @ ..] = rest else {
-        return Err(SheetFault::Cut(total));
-    };
-    let number = 256 * u16::from(*high) + u16::from(*low);
-    if u32::from(number) < least {
-        return Err(SheetFault::Broken(total.saturating_sub(rest.len())));
-    }
-    Ok((number, after))
-}
-
-// What follows the four bytes that a sheet begins with.
-fn after_header(sheet: &[u8]) -> Result<&[u8], SheetFault>
-    ensures { left result ≡ headed sheet.now }
-{
-    if sheet.len() < 4 {
-        return Err(SheetFault::Cut(sheet.len()));
-    }
-    match sheet.strip_prefix(b"PILE") {
-        Some(rest) => Ok(rest),
-        None => Err(SheetFault::Broken(0)),
-    }
-}
+use std::alloc::Global;
 
 // The capacities of `count` levels.
-fn read_capacities(
-    heap: Global,
-    total: usize,
-    count: u8,
-    rest: &[u8],
-) -> Result<(Vec<u8>, &[u8]), SheetFault>
-    ensures { seen_by items result ≡ memory_or result (capacities total count rest.now) }
+fn read_capacities(heap: Global, reader: &mut Reader<'_>, count: u8) -> Result<Vec<u8>, SheetFault>
+    ensures read { read_by items result reader.new ≡ memory_or result (capacities reader.old.total count reader.old.rest.now) }
+    ensures total { reader.new.total ≡ reader.old.total }
 {
     let mut levels = Vec::new(heap);
-    let mut rest = rest;
-    while levels.len() < usize::from(count) {
-        let (capacity, after) = byte_within(total, 1, 16, rest)?;
-        levels.push(capacity)?;
-        rest = after;
+    for _ in 0..count {
+        levels.push(reader.byte_within(1, 16)?)?;
     }
-    Ok((levels, rest))
+    Ok(levels)
 }
 
 // `count` rising numbers.
-fn read_rising(
-    heap: Global,
-    total: usize,
-    count: u8,
-    rest: &[u8],
-) -> Result<(Vec<u16>, &[u8]), SheetFault>
-    ensures { seen_by items result ≡ memory_or result (rising total count rest.now) }
+fn read_rising(heap: Global, reader: &mut Reader<'_>, count: u8) -> Result<Vec<u16>, SheetFault>
+    ensures read { read_by items result reader.new ≡ memory_or result (rising reader.old.total count reader.old.rest.now) }
+    ensures total { reader.new.total ≡ reader.old.total }
 {
     let mut defects = Vec::new(heap);
-    let mut rest = rest;
     let mut least = 0;
-    while defects.len() < usize::from(count) {
-        let (number, after) = number_from(total, least, rest)?;
+    for _ in 0..count {
+        let number = reader.number_from(least)?;
         defects.push(number)?;
         least = u32::from(number) + 1;
-        rest = after;
     }
-    Ok((defects, rest))
+    Ok(defects)
 }
 
 // The levels' capacities, after their count.
-fn read_levels(heap: Global, total: usize, rest: &[u8]) -> Result<(Vec<u8>, &[u8]), SheetFault>
-    ensures { seen_by items result ≡ memory_or result (levels_of total rest.now) }
+fn read_levels(heap: Global, reader: &mut Reader<'_>) -> Result<Vec<u8>, SheetFault>
+    ensures read { read_by items result reader.new ≡ memory_or result (levels_of reader.old.total reader.old.rest.now) }
+    ensures total { reader.new.total ≡ reader.old.total }
 {
-    let (count, rest) = byte_within(total, 0, 4, rest)?;
-    read_capacities(heap, total, count, rest)
+    let count = reader.byte_within(0, 4)?;
+    read_capacities(heap, reader, count)
 }
 
 // One image, of unit 1.
-fn read_single(total: usize, rest: &[u8]) -> Result<(Images, &[u8]), SheetFault>
-    ensures { seen result ≡ single total rest.now }
+fn read_single(reader: &mut Reader<'_>) -> Result<Images, SheetFault>
+    ensures read { read result reader.new ≡ single reader.old.total reader.old.rest.now }
+    ensures total { reader.new.total ≡ reader.old.total }
 {
-    let (_unit, rest) = byte_within(total, 1, 1, rest)?;
-    Ok((Images::Single, rest))
+    reader.byte_within(1, 1)?;
+    Ok(Images::Single)
 }
 
 // Two images of equal units.
-fn read_striped(total: usize, rest: &[u8]) -> Result<(Images, &[u8]), SheetFault>
-    ensures { seen result ≡ striped total rest.now }
+fn read_striped(reader: &mut Reader<'_>) -> Result<Images, SheetFault>
+    ensures read { read result reader.new ≡ striped reader.old.total reader.old.rest.now }
+    ensures total { reader.new.total ≡ reader.old.total }
 {
-    let (unit, rest) = byte_within(total, 1, 64, rest)?;
-    let (_same, rest) = byte_within(total, unit, unit, rest)?;
-    Ok((Images::Striped(unit), rest))
+    let unit = reader.byte_within(1, 64)?;
+    reader.byte_within(unit, unit)?;
+    Ok(Images::Striped(unit))
 }
 
 // The images, after their count.
-fn read_images(total: usize, rest: &[u8]) -> Result<(Images, &[u8]), SheetFault>
-    ensures { seen result ≡ images_of total rest.now }
+fn read_images(reader: &mut Reader<'_>) -> Result<Images, SheetFault>
+    ensures read { read result reader.new ≡ images_of reader.old.total reader.old.rest.now }
+    ensures total { reader.new.total ≡ reader.old.total }
 {
-    let (count, rest) = byte_within(total, 1, 2, rest)?;
-    if count == 1 {
-        read_single(total, rest)
-    } else {
-        read_striped(total, rest)
+    match reader.byte_within(1, 2)? {
+        1 => read_single(reader),
+        _ => read_striped(reader),
     }
 }
 
 // The defects, after their count.
-fn read_defects(heap: Global, total: usize, rest: &[u8]) -> Result<(Vec<u16>, &[u8]), SheetFault>
-    ensures { seen_by items result ≡ memory_or result (defects_of total rest.now) }
+fn read_defects(heap: Global, reader: &mut Reader<'_>) -> Result<Vec<u16>, SheetFault>
+    ensures read { read_by items result reader.new ≡ memory_or result (defects_of reader.old.total reader.old.rest.now) }
+    ensures total { reader.new.total ≡ reader.old.total }
 {
-    let (count, rest) = byte_within(total, 0, 16, rest)?;
-    read_rising(heap, total, count, rest)
-}
-
-// Refuses what follows the last section.
-fn end_sheet(total: usize, sheet: Sheet, rest: &[u8]) -> Result<Sheet, SheetFault>
-    ensures { seen_sheet result ≡ ended total (listed sheet) rest.now }
-{
-    if rest.is_empty() {
-        return Ok(sheet);
-    }
-    Err(SheetFault::Extra(total.saturating_sub(rest.len())))
+    let count = reader.byte_within(0, 16)?;
+    read_rising(heap, reader, count)
 }
 
 // The three sections after the header.
-fn read_sections(heap: Global, total: usize, rest: &[u8]) -> Result<Sheet, SheetFault>
-    ensures { seen_sheet result ≡ memory_or result (sections total rest.now) }
+fn read_lists(heap: Global, reader: &mut Reader<'_>) -> Result<Sheet, SheetFault>
+    ensures read { read_by listed result reader.new ≡ memory_or result (lists_of reader.old.total reader.old.rest.now) }
+    ensures total { reader.new.total ≡ reader.old.total }
 {
-    let (levels, rest) = read_levels(heap, total, rest)?;
-    let (images, rest) = read_images(total, rest)?;
-    let (defects, rest) = read_defects(heap, total, rest)?;
-    end_sheet(
-        total,
-        Sheet {
-            levels,
-            images,
-            defects,
-        },
-        rest,
-    )
+    Ok(Sheet {
+        levels: read_levels(heap, reader)?,
+        images: read_images(reader)?,
+        defects: read_defects(heap, reader)?,
+    })
+}
+
+// The sections, and nothing after them.
+fn read_sections(heap: Global, mut reader: Reader<'_>) -> Result<Sheet, SheetFault>
+    ensures { seen_sheet result ≡ memory_or result (sections reader.entry.total reader.entry.rest.now) }
+{
+    let sheet = read_lists(heap, &mut reader)?;
+    if !reader.rest.is_empty() {
+        return Err(SheetFault::Extra(reader.offset()));
+    }
+    Ok(sheet)
 }
 
 // The header and the sections after it.
 fn read_all(heap: Global, sheet: &[u8]) -> Result<Sheet, SheetFault>
     ensures { seen_sheet result ≡ memory_or result (sheet_of sheet.now) }
 {
-    let rest = after_header(sheet)?;
-    read_sections(heap, sheet.len(), rest)
+    read_sections(heap, Reader::after_header(sheet)?)
 }
 
 // Reads a sheet, or tells the first fault from the left.

@@ -1,27 +1,26 @@
-use Rattle.std.proofs.Common.{◌≡◌, suc, ◌+◌, ◌-◌, ◌<◌, Err, vec_items, vec_len, ap, ◌∙◌, arith}
+use Rattle.std.proofs.Common.{vec_items, ◌∙◌, ap, Err, ◌+◌}
 use Rattle.std.proofs.lemmas.Result.{err_from_is_err_and}
-use Rattle.formats.specs.Sheets.{number_from, rising}
-use Rattle.formats.proofs.Entries.{refused_by, left_refused, left_more}
+use Rattle.formats.specs.Sheets.{number_from}
+use Rattle.formats.proofs.Entries.{left_more, left_refused, left_all}
 use Rattle.formats.proofs.sheet.reading.read_rising.Goals as goal
 
-pub returns-in_err-number : goal.returns-in_err-number
-returns-in_err-number c =
+pub returns-in_err-number-clause-read : goal.returns-in_err-number-clause-read
+returns-in_err-number-clause-read c =
     let p = err_from_is_err_and c.from_residual.result c.from_residual.ensures.1 in
-    let t = rising c.args.total c.args.count c.args.rest.now in
-    let n = vec_len c.loop-rest.defects in
-    let in' : n < c.args.count = omega arith in
-    let more : c.args.count - n ≡ suc (c.args.count - (n + 1)) = omega arith in
-    refused_by vec_items c.from_residual.result c.in_err-number.field-0.0 t (p.1 ∙ ap (λ f. Err f) p.2)
-    (left_refused (number_from c.args.total) (λ x. x + 1) t (vec_items c.loop-rest.defects) c.loop-rest.least (c.args.count - n) (c.args.count - (n + 1)) c.loop-rest.rest.now more
-    c.loop-rest.invariant.1 c.in_err-number.field-0.0 c.in_err-number.ensures)
+    left_refused number_from (λ x. x + 1) c.args.reader.now c.args.count (vec_items c.loop.defects) c.loop.least c.loop.counter c.loop.reader c.loop-test.true c.loop.invariant
+    vec_items c.from_residual.result c.number_from.new.self c.in_err-number.field-0.0 (p.1 ∙ ap (λ f. Err f) p.2) c.in_err-number.ensures.read
 
-pub loop-rest-preserved : goal.loop-rest-preserved
-loop-rest-preserved c =
-    let t = rising c.args.total c.args.count c.args.rest.now in
-    let n = vec_len c.loop-rest.defects in
-    let in' : n < c.args.count = omega arith in
-    let more : c.args.count - n ≡ suc (c.args.count - (n + 1)) = omega arith in
-    let w = left_more (number_from c.args.total) (λ x. x + 1) t (vec_items c.loop-rest.defects) c.loop-rest.least (c.args.count - n) (c.args.count - (n + 1)) c.loop-rest.rest.now more
-    c.loop-rest.invariant.1 c.in_ok-number.number c.in_ok-number.after.now c.in_ok-number.ensures in
+pub returns-in_err-number-clause-total : goal.returns-in_err-number-clause-total
+returns-in_err-number-clause-total c = c.number_from.ensures.total ∙ c.loop.invariant.total
+
+pub returns-in_err-push-clause-total : goal.returns-in_err-push-clause-total
+returns-in_err-push-clause-total c = c.number_from.ensures.total ∙ c.loop.invariant.total
+
+pub loop-preserved : goal.loop-preserved
+loop-preserved c =
     let e = c.in_ok-push.ensures in
-    (omega (arith, e.len), simp (e.items, e.len, c.from-least.ensures) w)
+    simp (e.items, c.from-least.ensures) (left_more number_from (λ x. x + 1) c.args.reader.now c.args.count (vec_items c.loop.defects) c.loop.least c.loop.counter c.loop.reader c.loop-test.true c.loop.invariant
+    c.in_ok-number.number c.number_from.new.self c.in_ok-number.ensures.read c.number_from.ensures.total)
+
+pub returns-clause-read : goal.returns-clause-read
+returns-clause-read c = left_all number_from (λ x. x + 1) c.args.reader.now c.args.count (vec_items c.loop.defects) c.loop.least c.loop.counter c.loop.reader c.loop-test.false c.loop.invariant

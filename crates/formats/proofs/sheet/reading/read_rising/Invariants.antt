@@ -1,12 +1,8 @@
-use Rattle.std.proofs.Common.{◌+◌, ◌-◌, ◌≤◌, vec_items, vec_len}
-use Rattle.formats.specs.Sheets.{number_from, rising}
+use Rattle.std.proofs.Common.{vec_items, ◌+◌}
+use Rattle.formats.specs.Sheets.{number_from}
 use Rattle.formats.proofs.Entries.{Left}
 use Rattle.formats.proofs.sheet.reading.read_rising.Given as goal
 
 -- the numbers so far, and as many to come as the count says
-abbrev pub invariant-loop-rest : goal.invariant-loop-rest
-invariant-loop-rest l = (vec_len l.defects ≤ l.count)
-    × Left (number_from l.total) (λ x. x + 1) (rising l.total l.count l.initial.rest) (vec_items l.defects) l.least (l.count - vec_len l.defects) l.rest
-
-abbrev pub decreases-loop-rest : goal.decreases-loop-rest
-decreases-loop-rest l = l.count - vec_len l.defects
+abbrev pub invariant-loop : goal.invariant-loop
+invariant-loop l = Left number_from (λ x. x + 1) l.initial.reader l.count (vec_items l.defects) l.least l.counter l.reader
