@@ -4,6 +4,7 @@ ghost use Rattle.replaying.specs.Faults.{number_of as numbered, of_sheet as conv
 ghost use Rattle.replaying.specs.declared.fault.ReplayFault.TheVariants.{Trace as OfTrace, Memory};
 
 use formats::{SheetFault, TraceFault};
+use refusal::Refusal;
 use std::alloc::AllocError;
 
 // Why a sheet and a trace were not replayed. Nothing has changed then.

@@ -4,6 +4,7 @@
 mod bytes;
 mod fault;
 mod images;
+mod job;
 mod levels;
 mod running;
 mod work;

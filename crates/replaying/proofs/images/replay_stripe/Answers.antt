@@ -10,10 +10,10 @@ pub returns : goal.returns
 returns g c =
     let a = g.D.Source.store c.replay_listed.new.device.first in
     let b = g.E.Source.store c.replay_listed.new.device.second in
-    let f = blocks_after c.replay_listed.result (calls_of c.args.body.now)
-    (masked (vec_items c.args.sheet.now.defects) (striped c.args.unit (g.D.Source.store c.args.stripe.now.first) (g.E.Source.store c.args.stripe.now.second))) in
+    let f = blocks_after c.replay_listed.result (calls_of c.args.job.body.now)
+    (masked (vec_items c.args.job.sheet.now.defects) (striped c.args.unit (g.D.Source.store c.args.stripe.now.first) (g.E.Source.store c.args.stripe.now.second))) in
     let e : (striped c.args.unit a b).at ≡ f = search rules in
-    let some : 0 < c.args.unit = omega (arith, c.requires.unit.0) in
+    let some : 0 < c.args.unit = omega (arith, c.requires.0) in
     record {
       told = search rules;
       first = first_told c.args.unit some a b f e;
