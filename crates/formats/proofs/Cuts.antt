@@ -1,49 +1,49 @@
 -- A text cut at the first byte of a kind, and a trace cut into lines.
-use Rattle.std.proofs.Common.{◌≡◌, ℕ, ◌+◌, ◌-◌, ◌<◌, ◌≤◌, true, cond, eqb, List, [], ◌∷◌, ◌++◌, length, get_or, take, drop, Some, None, Option, sym, refl, ap, ◌∙◌, inl, inr, append_assoc, append-nil, arith}
-use Rattle.std.proofs.lemmas.List.{take_more, drop_more, drop_all, take_rest}
-use Rattle.std.proofs.lemmas.Bool.{cases_Bool, eq-eqb, ne_eqb, eqb-true}
+use Rattle.std.proofs.Common.{◌≡◌, ℕ, suc, ◌+◌, ◌-◌, Bool, true, false, cond, eqb, ltb, List, [], ◌∷◌, ◌++◌, length, take, drop, position, Some, None, Option, sym, refl, ap, ◌∙◌, inl, inr, arith}
+use Rattle.std.specs.List.{position_or_len}
+use Rattle.std.proofs.lemmas.List.{take_rest}
+use Rattle.std.proofs.lemmas.Bool.{cases_Bool, eqb-true, lt-ltb, le-ltb, ltb-true, ltb-false}
 use Rattle.formats.specs.Traces.{cut, fronted, lines, with_byte}
 
--- what was passed before the cut
-abbrev fronts : List ℕ → Option (List ℕ × List ℕ) → Option (List ℕ × List ℕ)
-fronts xs None = None
-fronts xs (Some p) = Some (xs ++ p.0, p.1)
+-- the parts before and after a place, where there is one
+abbrev at_place : List ℕ → Bool → ℕ → Option (List ℕ × List ℕ)
+at_place text some i = cond some (Some (take i text, drop (i + 1) text)) None
 
-fronts_nil : (r : Option (List ℕ × List ℕ)) → fronts [] r ≡ r
-fronts_nil None = refl
-fronts_nil (Some p) = refl
+abbrev place : ℕ → List ℕ → ℕ
+place c text = position_or_len (λ b. eqb b c) text
 
-fronts_more : (xs : List ℕ) (b : ℕ) (r : Option (List ℕ × List ℕ)) → fronts xs (fronted b r) ≡ fronts (xs ++ b ∷ []) r
-fronts_more xs b None = refl
-fronts_more xs b (Some p) = ap (λ zs. Some (zs, p.1)) (sym (append_assoc xs (b ∷ []) p.0))
+fronted_place : (b : ℕ) (bs : List ℕ) (some : Bool) (i : ℕ) → fronted b (at_place bs some i) ≡ at_place (b ∷ bs) some (1 + i)
+fronted_place b bs true i = let e : 1 + i + 1 ≡ suc (i + 1) = omega arith in let f : 1 + i ≡ suc i = omega arith in rw (e, f)
+fronted_place b bs false i = refl
 
--- the first i bytes are no c
-abbrev pub Passed : ℕ → List ℕ → ℕ → Type 0
-Passed c text i = cut c text ≡ fronts (take i text) (cut c (drop i text))
+one_more : (n m : ℕ) → ltb n m ≡ ltb (1 + n) (suc m)
+one_more n m = elim (cases_Bool (ltb n m)) [ inl t ↦ t ∙ sym (lt-ltb (1 + n) (suc m) (omega (arith, ltb-true n m t))) | inr t ↦ t ∙ sym (le-ltb (1 + n) (suc m) (omega (arith, ltb-false n m t))) ]
 
-pub passed_none : (c : ℕ) (text : List ℕ) → Passed c text 0
-passed_none c text = sym (fronts_nil (cut c text))
+cut_place : (c : ℕ) (text : List ℕ) → cut c text ≡ at_place text (ltb (place c text) (length text)) (place c text)
+cut_place c [] = refl
+cut_place c (b ∷ bs) =
+    elim (cases_Bool (eqb b c)) [
+      | inl t ↦ rw t (ap (λ t. cond t (Some ([], bs)) None) (sym (lt-ltb 0 (suc (length bs)) (omega arith))))
+      | inr t ↦ rw t (ap (λ o. fronted b o) (cut_place c bs) ∙ (fronted_place b bs (ltb (place c bs) (length bs)) (place c bs) ∙ ap (λ t. at_place (b ∷ bs) t (1 + place c bs)) (one_more (place c bs) (length bs))))
+    ]
 
-module _ (c : ℕ) (text : List ℕ) (i : ℕ) (passed : Passed c text i) where
-  pub passed_more : i < length text → (get_or text i 0 ≡ c → ⊥) → Passed c text (i + 1)
-  passed_more l ne =
-      passed ∙ (ap (λ zs. fronts (take i text) (cut c zs)) (drop_more text i 0 l)
-      ∙ (ap (λ t. fronts (take i text) (cond t (Some ([], drop (i + 1) text)) (fronted (get_or text i 0) (cut c (drop (i + 1) text))))) (ne_eqb (get_or text i 0) c ne)
-      ∙ (fronts_more (take i text) (get_or text i 0) (cut c (drop (i + 1) text)) ∙ ap (λ zs. fronts zs (cut c (drop (i + 1) text))) (sym (take_more text i 0 l)))))
+module _ (text : List ℕ) (k : ℕ) where
+  some_place : (some : Bool) (i : ℕ) → ◌≡◌ {A = Option ℕ} (Some i) (cond some (Some k) None) → at_place text some k ≡ Some (take i text, drop (i + 1) text)
+  some_place true i h = let e : i ≡ k = cc in rw e
+  some_place false i h = let z : ◌≡◌ {A = ℕ} 0 1 = cc in absurd (omega arith)
 
-  found : i < length text → get_or text i 0 ≡ c → ◌≡◌ {A = Option (List ℕ × List ℕ)} (Some (take i text, drop (i + 1) text)) (cut c text)
-  found l e =
-      sym (passed ∙ (ap (λ zs. fronts (take i text) (cut c zs)) (drop_more text i 0 l)
-      ∙ (ap (λ t. fronts (take i text) (cond t (Some ([], drop (i + 1) text)) (fronted (get_or text i 0) (cut c (drop (i + 1) text))))) (eq-eqb (get_or text i 0) c e)
-      ∙ ap (λ zs. Some (zs, drop (i + 1) text)) (append-nil (take i text)))))
+  no_place : (some : Bool) → ◌≡◌ {A = Option ℕ} None (cond some (Some k) None) → at_place text some k ≡ None
+  no_place true h = let z : ◌≡◌ {A = ℕ} 0 1 = cc in absurd (omega arith)
+  no_place false h = refl
 
-  pub passed_found : i < length text → get_or text i 0 ≡ c → ◌≡◌ {A = Option (List ℕ × List ℕ)} (Some (take (i - 0) text, take (length text - (i + 1)) (drop (i + 1) text))) (cut c text)
-  passed_found l e =
-      let z : i - 0 ≡ i = omega arith in
-      ap (λ zs. Some (take (i - 0) text, zs)) (take_rest text (i + 1)) ∙ (ap (λ k. Some (take k text, drop (i + 1) text)) z ∙ found l e)
+-- what stands before and after the place of the first c
+pub cut_found : (c : ℕ) (text : List ℕ) (i : ℕ) → ◌≡◌ {A = Option ℕ} (Some i) (position (λ b. eqb b c) text)
+    → ◌≡◌ {A = Option (List ℕ × List ℕ)} (Some (take i text, take (length text - (i + 1)) (drop (i + 1) text))) (cut c text)
+cut_found c text i h =
+    ap (λ zs. Some (take i text, zs)) (take_rest text (i + 1)) ∙ sym (cut_place c text ∙ some_place text (place c text) (ltb (place c text) (length text)) i h)
 
-  pub passed_all : length text ≤ i → ◌≡◌ {A = Option (List ℕ × List ℕ)} None (cut c text)
-  passed_all l = sym (passed ∙ ap (λ zs. fronts (take i text) (cut c zs)) (drop_all i text l))
+pub cut_nowhere : (c : ℕ) (text : List ℕ) → ◌≡◌ {A = Option ℕ} None (position (λ b. eqb b c) text) → ◌≡◌ {A = Option (List ℕ × List ℕ)} None (cut c text)
+cut_nowhere c text h = sym (cut_place c text ∙ no_place text (place c text) (ltb (place c text) (length text)) h)
 
 -- the parts that a cut gives
 cut_here : (c x : ℕ) (xs : List ℕ) (p : List ℕ × List ℕ) → eqb x c ≡ true → ◌≡◌ {A = Option (List ℕ × List ℕ)} (Some ([], xs)) (Some p) → x ∷ xs ≡ p.0 ++ c ∷ p.1

@@ -1,7 +1,12 @@
 -- A trace judged line by line.
-use Rattle.std.proofs.Common.{◌≡◌, ℕ, suc, ◌+◌, ◌<◌, cond, List, [], ◌∷◌, length, is_some, Some, None, Err, Option, sym, refl, ap, ◌∙◌, arith, length-append}
+use Rattle.std.proofs.Common.{◌≡◌, ℕ, suc, ◌+◌, ◌<◌, ◌≤◌, true, false, cond, List, [], ◌∷◌, length, is_some, Some, None, Ok, Err, Option, Result, sym, refl, ap, ◌∙◌, subst, arith, length-append}
+use Rattle.std.proofs.lemmas.List.{nil_from_length}
+use Rattle.formats.specs.declared.trace.Line.{Line}
+use Rattle.formats.specs.declared.trace.lines.Lines.{Lines}
+use Rattle.formats.specs.declared.trace.TraceFault.{TraceFault}
 use Rattle.formats.specs.declared.trace.TraceFault.TheVariants.{Broken}
 use Rattle.formats.specs.Traces.{Said, said, cut, lines, beside, said_first, first_line, judged_after}
+use Rattle.formats.specs.Shown.{shown, shown_taken, TakesLine}
 use Rattle.formats.proofs.Cuts.{cut_parts, lines_by, lines_cut}
 
 cut_length : (c : ℕ) (xs : List ℕ) (p : List ℕ × List ℕ) → cut c xs ≡ Some p → length p.0 + suc (length p.1) ≡ length xs
@@ -29,6 +34,10 @@ module _ (before : ℕ) (rest : List ℕ) (s : Said) (after : List ℕ) where
       → (judged_after before (lines rest) ≡ judged_after (before + 1) (lines after)) × (length after < length rest)
   judged_more h = taken_cut (cut 10 rest) refl (sym h)
 
+-- fewer bytes are left after a line
+pub shorter : (rest : List ℕ) (s : Said) (after : List ℕ) → ◌≡◌ {A = Option (Said × List ℕ)} (Some (s, after)) (first_line rest) → length after < length rest
+shorter rest s after h = (judged_more 0 rest s after h).1
+
 -- a first line that breaks a rule
 module _ (before : ℕ) (rest : List ℕ) (some : 0 < length rest) where
   broken_said : (p : List ℕ × List ℕ) (o : Option Said) → said p.0 ≡ o → cut 10 rest ≡ Some p → beside o p.1 ≡ None → judged_after before (lines rest) ≡ Err (Broken (before + 1))
@@ -47,3 +56,35 @@ module _ (before : ℕ) (rest : List ℕ) (some : 0 < length rest) where
 
   pub judged_broken : None ≡ first_line rest → judged_after before (lines rest) ≡ Err (Broken (before + 1))
   judged_broken h = broken_cut (cut 10 rest) refl (sym h)
+
+-- so many lines of a text were lawful and were taken: what is left decides, and there are no more lines than bytes
+pub record Judging (body : List ℕ) (left : Lines) (lawful : ℕ) : Type 0 where
+  pub same : judged_after 1 (lines body) ≡ judged_after (lawful + 1) (lines left.rest.now)
+  pub few : lawful + length left.rest.now ≤ length body
+
+module _ (body : List ℕ) (before : Lines) (line : Option Line) (after : Lines) (lawful : ℕ) (takes : TakesLine before line after) (so_far : Judging body before lawful) where
+  pub judging_more : true ≡ is_some line → Judging body after (lawful + 1)
+  judging_more h = by_line line (sym h) takes.taken
+    where
+      by_line : (line : Option Line) → is_some line ≡ true → shown_taken line after ≡ first_line before.rest.now → Judging body after (lawful + 1)
+      by_line None h t = absurd (cc)
+      by_line (Some l) h t =
+          let m = judged_more (lawful + 1) before.rest.now (shown l) after.rest.now t in
+          record { same = so_far.same ∙ m.0; few = omega (arith, so_far.few, m.1) }
+
+  module _ (h : false ≡ is_some line) where
+    none : (line : Option Line) → is_some line ≡ false → line ≡ None
+    none None h = refl
+    none (Some l) h = absurd (cc)
+
+    stays : after.rest.now ≡ before.rest.now
+    stays = takes.stays (none line (sym h))
+
+    pub judging_done : length after.rest.now ≡ 0 → ◌≡◌ {A = Result (Unit {0}) TraceFault} (Ok tt) (judged_after 1 (lines body))
+    judging_done z = sym (so_far.same ∙ ap (λ zs. judged_after (lawful + 1) (lines zs)) (nil_from_length before.rest.now (ap length (sym stays) ∙ z)))
+
+    pub judging_broken : 0 < length after.rest.now → ◌≡◌ {A = Result (Unit {0}) TraceFault} (Err (Broken (lawful + 2))) (judged_after 1 (lines body))
+    judging_broken some =
+        let t : None ≡ first_line before.rest.now = ap (λ r. shown_taken r after) (sym (none line (sym h))) ∙ takes.taken in
+        let e : (lawful + 1) + 1 ≡ lawful + 2 = omega arith in
+        sym (so_far.same ∙ (judged_broken (lawful + 1) before.rest.now (subst (λ zs. 0 < length zs) stays some) t ∙ ap (λ n. Err (Broken n)) e))

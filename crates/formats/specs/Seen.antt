@@ -4,7 +4,7 @@ use Rattle.formats.specs.declared.sheet.SheetFault.{SheetFault}
 use Rattle.formats.specs.declared.sheet.SheetFault.TheVariants.{Cut, Broken, Extra, Memory}
 use Rattle.formats.specs.declared.sheet.Sheet.{Sheet}
 use Rattle.formats.specs.declared.sheet.reader.Reader.{Reader}
-use Rattle.formats.specs.Sheets.{Reading, Listed}
+use Rattle.formats.specs.Sheets.{Reading, Listed, number_of}
 
 -- what was read and the bytes that are left, where it is seen as what it lists
 abbrev pub read_by : {X Y : Type 0} → (X → Y) → Result X SheetFault → Reader → Reading Y
@@ -36,11 +36,11 @@ seen_sheet (Ok s) = Ok (listed s)
 seen_sheet (Err e) = Err e
 
 -- a refusal's number and its offset, in words
-abbrev pub placed_fault : ℕ → ℕ → Option (List ℕ)
-placed_fault number at = Some (decimal number ++ (codes " at " ++ decimal at))
+abbrev pub placed_fault : SheetFault → ℕ → Option (List ℕ)
+placed_fault fault at = Some (decimal (number_of fault) ++ (codes " at " ++ decimal at))
 
 abbrev pub fault_text : SheetFault → Option (List ℕ)
-fault_text (Cut o) = placed_fault 13 o
-fault_text (Broken o) = placed_fault 14 o
-fault_text (Extra o) = placed_fault 15 o
+fault_text (Cut o) = placed_fault (Cut o) o
+fault_text (Broken o) = placed_fault (Broken o) o
+fault_text (Extra o) = placed_fault (Extra o) o
 fault_text Memory = Some (codes "no memory")

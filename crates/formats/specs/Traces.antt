@@ -10,6 +10,10 @@ number_of (Broken line) = 16
 abbrev pub within : ℕ → ℕ → ℕ → Bool
 within low high c = nat_le low c && nat_le c high
 
+-- the value of a decimal digit
+abbrev pub digit : ℕ → Option ℕ
+digit c = cond (within 48 57 c) (Some (c - 48)) None
+
 -- the number that digits write after n
 abbrev pub decimal_after : ℕ → List ℕ → ℕ
 decimal_after n [] = n
@@ -44,6 +48,10 @@ is_hex c = within 48 57 c || within 97 102 c
 
 abbrev pub hex : ℕ → ℕ
 hex c = cond (nat_le 97 c) (c - 87) (c - 48)
+
+-- the value of a digit of a byte
+abbrev pub hex_digit : ℕ → Option ℕ
+hex_digit c = cond (is_hex c) (Some (hex c)) None
 
 -- a byte in two digits
 abbrev pub fill_in : List ℕ → Option ℕ

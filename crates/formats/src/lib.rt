@@ -7,4 +7,4 @@ mod trace;
 
 pub use report::{LevelTally, ReportFault, write_report};
 pub use sheet::{Images, Sheet, SheetFault, read_sheet};
-pub use trace::{Line, TraceFault, examples_hold, fill_in, first_line, judge, number_in};
+pub use trace::{Line, Lines, TraceFault, examples_hold, fill_in, first_line, judge, number_in};

@@ -15,8 +15,11 @@ pub enum TraceFault {
     Broken(usize),
 }
 
+mod fault;
 mod fields;
 mod judging;
+mod lines;
 
 pub use fields::{fill_in, number_in};
-pub use judging::{examples_hold, first_line, judge};
+pub use judging::{examples_hold, judge};
+pub use lines::{Lines, first_line};

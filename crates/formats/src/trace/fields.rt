@@ -1,23 +1,13 @@
 // The fields of a line.
-ghost use Rattle.std.specs.Prelude.{◌≡◌, true};
-ghost use Rattle.formats.specs.Traces.{within, plain, small_after as small, number_in as numbered, is_hex as digit, hex, fill_in as filled, cut as cutting};
+ghost use Rattle.std.specs.Prelude.{◌≡◌, ◌==◌, position};
+ghost use Rattle.formats.specs.Traces.{small_after as small, number_in as numbered, digit, hex_digit, fill_in as filled, cut as cutting};
 ghost use Rattle.formats.specs.Shown.{shown_parts as parts};
 
-fn is_digit(c: u8) -> bool
-    ensures { result ≡ within 48 57 c }
+// The value of a decimal digit.
+fn digit_value(c: u8) -> Option<u32>
+    ensures { result ≡ digit c }
 {
-    b'0' <= c && c <= b'9'
-}
-
-// Whether there is a digit, and no zero before another.
-fn is_plain(field: &[u8]) -> bool
-    ensures { result ≡ plain field.now }
-{
-    match field {
-        [] => false,
-        [_] => true,
-        [first, ..] => *first != b'0',
-    }
+    char::from(c).to_digit(10)
 }
 
 // The number that digits write, if it is at most 65535.
@@ -26,10 +16,7 @@ fn small_number(digits: &[u8]) -> Option<u32>
 {
     let mut value = 0;
     for digit in digits {
-        if !is_digit(*digit) {
-            return None;
-        }
-        value = 10 * value + u32::from(*digit - b'0');
+        value = 10 * value + digit_value(*digit)?;
         if value > 65535 {
             return None;
         }
@@ -41,51 +28,44 @@ fn small_number(digits: &[u8]) -> Option<u32>
 pub fn number_in(field: &[u8]) -> Option<u32>
     ensures { result ≡ numbered field.now }
 {
-    if is_plain(field) {
-        small_number(field)
-    } else {
-        None
+    match field {
+        [] | [b'0', _, ..] => None,
+        digits => small_number(digits),
     }
 }
 
-fn is_hex(c: u8) -> bool
-    ensures { result ≡ digit c }
+// The value of a digit of a byte; a capital letter is none.
+fn hex_value(c: u8) -> Option<u8>
+    ensures { result ≡ hex_digit c }
 {
-    (b'0' <= c && c <= b'9') || (b'a' <= c && c <= b'f')
-}
-
-// The value of a digit of a byte.
-fn hex_value(c: u8) -> u8
-    requires { digit c ≡ true }
-    ensures { result ≡ hex c }
-{
-    if c >= b'a' { c - 87 } else { c - 48 }
+    match c {
+        b'0'..=b'9' => Some(c - b'0'),
+        b'a'..=b'f' => Some(c - b'a' + 10),
+        _ => None,
+    }
 }
 
 // The byte that a fill field writes, in two digits.
 pub fn fill_in(field: &[u8]) -> Option<u8>
     ensures { result ≡ filled field.now }
 {
-    match field {
-        [high, low] => {
-            if is_hex(*high) && is_hex(*low) {
-                Some(16 * hex_value(*high) + hex_value(*low))
-            } else {
-                None
-            }
-        }
-        _ => None,
-    }
+    let [high, low] = field else {
+        return None;
+    };
+    Some(16 * hex_value(*high)? + hex_value(*low)?)
+}
+
+// Where the first `c` stands.
+fn place_of(text: &[u8], c: u8) -> Option<usize>
+    ensures { result ≡ position (λ b. b == c) text.now }
+{
+    text.iter().position(|b| *b == c)
 }
 
 // What stands before and after the first `c`.
 pub fn cut(text: &[u8], c: u8) -> Option<(&[u8], &[u8])>
     ensures { parts result ≡ cutting c text.now }
 {
-    for (i, b) in text.iter().enumerate() {
-        if *b == c {
-            return Some((&text[0..i], &text[i + 1..]));
-        }
-    }
-    None
+    let i = place_of(text, c)?;
+    Some((&text[..i], &text[i + 1..]))
 }
