@@ -11,7 +11,7 @@ ghost use Rattle.replaying.specs.Outcomes.{Tells, synced_store};
 
 use crate::work::{Done, Work};
 use device::BLOCK;
-use formats::{Line, fill_in, first_line, number_in};
+use formats::{Line, Lines, fill_in, number_in};
 use pile::{Pile, Tallies};
 use tier::Tier;
 
@@ -71,13 +71,9 @@ fn run<T: Tier>(pile: &mut Pile<T>, body: &[u8]) -> u64
     ensures after { pile_of (T.Tier.model pile.new.tier) pile.new.tallies ≡ after (calls_of body.now) (pile_of (T.Tier.model pile.old.tier) pile.old.tallies) }
     ensures loans { T.Tier.loans pile.new.tier ≡ T.Tier.loans pile.old.tier }
 {
-    let mut rest = body;
     let mut refused = 0;
-    while let Some((line, next)) = first_line(rest) {
-        if run_line(pile, line) {
-            refused += 1;
-        }
-        rest = next;
+    for line in Lines::new(body) {
+        refused += u64::from(run_line(pile, line));
     }
     refused
 }
