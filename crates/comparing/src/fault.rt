@@ -1,5 +1,6 @@
 // Why the layouts of two sheets were not compared.
 ghost use Rattle.std.specs.Prelude.{◌≡◌};
+ghost use Rattle.comparing.specs.Faults.{of_compare as converted};
 ghost use Rattle.comparing.specs.declared.fault.LayoutFault.TheVariants.{Memory};
 
 use certificate::CompareFault;
@@ -19,6 +20,17 @@ pub enum LayoutFault {
     Compare(CompareFault),
     // There is no memory for the lists or for copies of the images.
     Memory,
+}
+
+impl From<CompareFault> for LayoutFault {
+    ghost from_gives = { λ f r. r ≡ converted f };
+
+    fn from(fault: CompareFault) -> LayoutFault {
+        match fault {
+            CompareFault::Memory => LayoutFault::Memory,
+            _ => LayoutFault::Compare(fault),
+        }
+    }
 }
 
 impl From<AllocError> for LayoutFault {

@@ -8,6 +8,7 @@ use crate::levels::level_of;
 use tier::Tier;
 
 // A tier after some work, and what the work tells.
+#[derive(Drop)]
 pub struct Done<T, A> {
     pub tier: T,
     pub told: A,
