@@ -4,7 +4,7 @@
 
 use anyhow::anyhow;
 use files::{read_some, write_over};
-use formats::{Images, SheetFault, TraceFault, read_sheet, write_report};
+use formats::{Images, SheetFault, read_sheet, write_report};
 use replaying::{ReplayFault, Replayed, replay};
 use std::io;
 use std::io::{Read, Write};
@@ -14,8 +14,6 @@ const SHEET: &str = "pile.sheet";
 const FIRST: &str = "image.bin";
 
 const SECOND: &str = "image2.bin";
-
-const NO_MEMORY: &str = "no memory";
 
 // The most bytes that are read of an image.
 const IMAGE_BYTES: u64 = 32768;
@@ -39,7 +37,7 @@ fn read_trace(rt: &HostRuntime) -> io::Result<Vec<u8>> {
 fn lists_second(rt: &HostRuntime, sheet: &[u8]) -> anyhow::Result<bool> {
     match read_sheet(rt.alloc(), sheet) {
         Ok(listed) => Ok(matches!(listed.images, Images::Striped(_))),
-        Err(SheetFault::Memory) => Err(anyhow!("{NO_MEMORY}")),
+        Err(SheetFault::Memory) => Err(SheetFault::Memory.into()),
         Err(_) => Ok(false),
     }
 }
@@ -56,26 +54,9 @@ fn read_second(rt: &HostRuntime, sheet: &[u8]) -> anyhow::Result<Vec<u8>> {
 fn print_report(rt: &HostRuntime, told: &Replayed) -> anyhow::Result<()> {
     let mut buffer = [0u8; REPORT_BYTES];
     let levels = &told.levels;
-    match write_report(&mut buffer, levels, u64::from(told.floor), told.refused) {
-        Ok(length) => rt.stdout().write_all(&buffer[0..length])?,
-        Err(_) => return Err(anyhow!("the report is too long")),
-    }
-    Ok(())
-}
-
-// Prints why nothing was replayed, by its number and the place of the first fault. Want of memory is an error.
-fn print_refusal(rt: &HostRuntime, fault: ReplayFault) -> anyhow::Result<()> {
-    let number = fault.number();
-    match fault {
-        ReplayFault::Sheet(SheetFault::Cut(at))
-        | ReplayFault::Sheet(SheetFault::Broken(at))
-        | ReplayFault::Sheet(SheetFault::Extra(at)) => println!(rt; "sheet {number} at {at}")?,
-        ReplayFault::Trace(TraceFault::Broken(line)) => println!(rt; "trace {number} at {line}")?,
-        ReplayFault::Sheet(SheetFault::Memory) | ReplayFault::Memory => {
-            return Err(anyhow!("{NO_MEMORY}"));
-        }
-    }
-    Ok(())
+    let length = write_report(&mut buffer, levels, u64::from(told.floor), told.refused)
+        .map_err(|_| anyhow!("the report is too long"))?;
+    Ok(rt.stdout().write_all(&buffer[..length])?)
 }
 
 fn run(rt: &HostRuntime) -> anyhow::Result<()> {
@@ -89,7 +70,8 @@ fn run(rt: &HostRuntime) -> anyhow::Result<()> {
             write_over(rt, SECOND, &second)?;
             print_report(rt, &told)
         }
-        Err(fault) => print_refusal(rt, fault),
+        Err(ReplayFault::Memory) => Err(ReplayFault::Memory.into()),
+        Err(fault) => Ok(println!(rt; "{fault}")?),
     }
 }
 
