@@ -1,8 +1,7 @@
 -- Bytes as blocks, under a write to the part that one block is.
 use Rattle.std.proofs.Common.{◌≡◌, ℕ, ◌+◌, ◌-◌, ◌*◌, ◌/◌, ◌≤◌, min, cond, eqb, ltb, List, length, take, drop, sym, ap, ◌∙◌, inl, inr, arith, length-append, length-drop, length-take}
 use borrow.Rule.Slice.PartMut.{put_mid}
-use native.Mathlib.Nat.{sub-zero}
-use Rattle.std.proofs.lemmas.List.{drop-take, drop_at, length-take-le, take_rest}
+use Rattle.std.proofs.lemmas.List.{drop-take, drop_at, length-take-le}
 use Rattle.std.proofs.lemmas.Slice.{take-put_mid_below, take-put_mid, drop-put_mid}
 use Rattle.std.proofs.lemmas.Bool.{cases_Bool, cases_order, eqb-true, eqb-false}
 use Rattle.device.specs.Store.{put}
@@ -45,11 +44,7 @@ module _ (xs v : List ℕ) (b : ℕ) (there : 256 * b + 256 ≤ length xs) (full
       let e : length (put_mid (256 * b) 256 xs v) ≡ length xs = length_put xs v (256 * b) 256 there full in
       λ i. record { size = min (e i / 256) 1048576; at = λ n. block_at n i; sound = λ n. ltb n (min (e i / 256) 1048576) }
 
--- a part cut as a rest and then as a front
-pub part_of_rest : (xs : List ℕ) (a k : ℕ) → a ≤ length xs → take (k - 0) (take (length xs - a) (drop a xs)) ≡ take k (drop a xs)
-part_of_rest xs a k h = rw (take_rest xs a, sub-zero k)
-
--- the same, as the write of a part leaves it
+-- the same, as the write of the part leaves it
 pub put_block_part : (xs v : List ℕ) (b : ℕ) → 256 * b + 256 ≤ length xs → length v ≡ 256 → (w : List ℕ) → w ≡ v
     → of_bytes (put_mid (256 * b) ((256 * b + 256) - 256 * b) xs w) ≡ put (of_bytes xs) b v
 put_block_part xs v b there full w e =

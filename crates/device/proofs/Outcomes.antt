@@ -1,15 +1,9 @@
--- What a read and a write leave, by the answer.
+-- What a write leaves, by the answer.
 use Rattle.std.proofs.Common.{◌≡◌, ℕ, ◌<◌, true, eqb, ltb, List, length, Ok, Err, Result, inl, inr, arith}
 use Rattle.std.proofs.lemmas.Bool.{cases_Bool, eqb-true, ltb-true}
 use Rattle.device.specs.declared.fault.DeviceFault.{DeviceFault}
 use Rattle.device.specs.Store.{Store, put}
-use Rattle.device.specs.Answers.{answer, filled, written}
-
-pub filled_ok : (s : Store) (b : ℕ) (buffer : List ℕ) → answer s b (length buffer) ≡ Ok tt → filled s b buffer ≡ s.at b
-filled_ok s b buffer h = rw h
-
-pub filled_err : (s : Store) (b : ℕ) (buffer : List ℕ) (e : DeviceFault) → answer s b (length buffer) ≡ Err e → filled s b buffer ≡ buffer
-filled_err s b buffer e h = rw h
+use Rattle.device.specs.Answers.{answer, written}
 
 pub written_ok : (s : Store) (b : ℕ) (bytes : List ℕ) → answer s b (length bytes) ≡ Ok tt → written s b bytes ≡ put s b bytes
 written_ok s b bytes h = rw h

@@ -24,31 +24,25 @@ fn admit_bytes(bytes: &[u8], b: u32, len: usize) -> Result<(), DeviceFault>
     admit(len, b, blocks, b < blocks)
 }
 
-// Copies the bytes of a block.
-fn copy_block(to: &mut [u8], from: &[u8])
-    requires { length to.old ≡ length from.now }
-    ensures { to.new ≡ from.now }
-{
-    to.copy_from_slice(from);
-}
-
 // The part of the bytes that block `b` is.
 fn block_of(bytes: &[u8], b: u32) -> &[u8]
     requires { b < counted bytes.now }
     ensures block { result.now ≡ (seen bytes.now).at b }
     ensures len { length result.now ≡ 256 }
 {
-    let rest = &bytes[BLOCK * b as usize..];
-    &rest[0..BLOCK]
+    let at = BLOCK * b as usize;
+    &bytes[at..at + BLOCK]
 }
 
 // Copies a block's new bytes into the part of the bytes that it is.
+// The part is a range: the contract of `as_chunks_mut` does not say what the bytes are afterwards.
+#[tactic(auto, using(crate::proofs::OneBlock::put_block_part, crate::specs::Whole::fits))]
 fn replace_block(bytes: &mut [u8], b: u32, block: &[u8])
     requires { (b < counted bytes.old) × (length block.now ≡ 256) }
     ensures { seen bytes.new ≡ put (seen bytes.old) b block.now }
 {
     let at = BLOCK * b as usize;
-    copy_block(&mut bytes[at..at + BLOCK], block);
+    bytes[at..at + BLOCK].copy_from_slice(block);
 }
 
 // Reads block `b` of the bytes into the buffer.
@@ -57,7 +51,7 @@ pub fn read_block(bytes: &[u8], b: u32, buffer: &mut [u8]) -> Result<(), DeviceF
     ensures buffer { buffer.new ≡ filled (seen bytes.now) b buffer.old }
 {
     admit_bytes(bytes, b, buffer.len())?;
-    copy_block(buffer, block_of(bytes, b));
+    buffer.copy_from_slice(block_of(bytes, b));
     Ok(())
 }
 

@@ -3,6 +3,8 @@ ghost use Rattle.std.specs.Prelude.{◌≡◌};
 ghost use Rattle.device.specs.Answers.{checked};
 ghost use Rattle.device.specs.Refusals.{number_of as numbered};
 
+use refusal::Refusal;
+
 // The length of a block in bytes.
 pub const BLOCK: usize = 256;
 
@@ -17,11 +19,10 @@ pub enum DeviceFault {
     Defective,
 }
 
-impl DeviceFault {
-    // The number by which the refusal is told.
-    pub fn number(self) -> u8
-        ensures { result ≡ numbered self }
-    {
+impl Refusal for DeviceFault {
+    ghost number_of = { numbered };
+
+    fn number(self) -> u8 {
         match self {
             DeviceFault::Length => 1,
             DeviceFault::Range => 2,

@@ -24,6 +24,7 @@ impl<'a> Image<'a> {
     }
 }
 
+// As an archive's: one type over both kinds of slice would need a trait of its own for the bytes, and no fewer lines.
 impl<'a> Source for Image<'a> {
     ghost store = { λ x. seen x.bytes.now };
 

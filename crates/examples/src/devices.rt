@@ -1,21 +1,7 @@
 // Images, archives, stripes and defect lists at their edges.
-use device::{Archive, Device, DeviceFault, Image, Source};
-use layers::{DefectFault, DefectList, Stripe};
-
-// The number of a refusal, or 0.
-fn told(r: Result<(), DeviceFault>) -> u8 {
-    match r {
-        Ok(()) => 0,
-        Err(fault) => fault.number(),
-    }
-}
-
-fn listing_told(r: Result<(), DefectFault>) -> u8 {
-    match r {
-        Ok(()) => 0,
-        Err(fault) => fault.number(),
-    }
-}
+use device::{Archive, Device, Image, Source};
+use layers::{DefectList, Stripe};
+use refusal::told;
 
 // Blocks of images and archives of a few lengths, and a write and a read of block 0.
 pub fn lengths(rt: &HostRuntime) -> anyhow::Result<()> {
@@ -59,10 +45,7 @@ pub fn units(rt: &HostRuntime) -> anyhow::Result<()> {
     let mut two = vec![in rt.alloc(); 0u8; 1792]?;
     let mut stripe = Stripe::new(Image::new(&mut one), Image::new(&mut two));
     for unit in [1u32, 2, 5, 64, 65, 0] {
-        let answer = match stripe.set_unit(unit) {
-            Ok(()) => 0,
-            Err(fault) => fault.number(),
-        };
+        let answer = told(stripe.set_unit(unit));
         let blocks = stripe.blocks();
         println!(rt; "unit {unit}: answer {answer}, blocks {blocks}")?;
     }
@@ -73,19 +56,19 @@ pub fn units(rt: &HostRuntime) -> anyhow::Result<()> {
 pub fn defects(rt: &HostRuntime) -> anyhow::Result<()> {
     let mut bytes = vec![in rt.alloc(); 0u8; 5120]?;
     let mut list = DefectList::new(rt.alloc(), Image::new(&mut bytes));
-    let first = listing_told(list.list(0));
-    let equal = listing_told(list.list(0));
+    let first = told(list.list(0));
+    let equal = told(list.list(0));
     println!(rt; "first defect {first}, the same again {equal}")?;
     for n in 1u32..15 {
-        let answer = listing_told(list.list(n));
+        let answer = told(list.list(n));
         if answer != 0 {
             println!(rt; "defect {n} answered {answer}")?;
         }
     }
-    let smaller = listing_told(list.list(3));
-    let sixteenth = listing_told(list.list(18));
-    let equal_full = listing_told(list.list(18));
-    let seventeenth = listing_told(list.list(19));
+    let smaller = told(list.list(3));
+    let sixteenth = told(list.list(18));
+    let equal_full = told(list.list(18));
+    let seventeenth = told(list.list(19));
     println!(rt;
         "smaller {smaller}, sixteenth {sixteenth}, the same at a full list {equal_full}, seventeenth {seventeenth}"
     )?;

@@ -1,7 +1,8 @@
 // Restoring at its edges.
 use device::{Archive, Device, Image};
 use layers::{DefectList, RestoreFault, restore};
-use restoring::{restore_image, restore_images};
+use refusal::Refusal;
+use restoring::{Striping, restore_image, restore_images};
 
 fn print_outcome(
     rt: &HostRuntime,
@@ -10,23 +11,14 @@ fn print_outcome(
 ) -> anyhow::Result<()> {
     match outcome {
         Ok(blocks) => println!(rt; "{name}: restored {blocks}")?,
-        Err(fault) => {
-            let number = fault.number();
-            println!(rt; "{name}: refused {number}")?
-        }
+        Err(fault) => println!(rt; "{name}: refused {}", fault.number())?,
     }
     Ok(())
 }
 
 // How many bytes have the value.
 fn count_of(bytes: &[u8], value: u8) -> usize {
-    let mut n: usize = 0;
-    for b in bytes {
-        if *b == value {
-            n = n.saturating_add(1);
-        }
-    }
-    n
+    bytes.iter().filter(|b| **b == value).count()
 }
 
 pub fn onto_image(rt: &HostRuntime) -> anyhow::Result<()> {
@@ -91,20 +83,20 @@ pub fn onto_stripe(rt: &HostRuntime) -> anyhow::Result<()> {
             &archive,
             &mut first,
             &mut second,
-            unit,
-            &[defect],
+            Striping {
+                unit,
+                defects: &[defect],
+            },
         );
         let (a, b, c, d) = (first[0], first[256], second[0], second[256]);
         match outcome {
             Ok(blocks) => println!(rt;
                 "stripe of unit {unit}, defect {defect}: restored {blocks}, blocks {a} {b} and {c} {d}"
             )?,
-            Err(fault) => {
-                let number = fault.number();
-                println!(rt;
-                    "stripe of unit {unit}, defect {defect}: refused {number}, blocks {a} {b} and {c} {d}"
-                )?
-            }
+            Err(fault) => println!(rt;
+                "stripe of unit {unit}, defect {defect}: refused {}, blocks {a} {b} and {c} {d}",
+                fault.number()
+            )?,
         }
     }
     Ok(())

@@ -1,5 +1,5 @@
 -- No two blocks of a stripe lie at the same place, so a write there changes one block of the stripe.
-use Rattle.std.proofs.Common.{◌≡◌, ℕ, ◌+◌, ◌*◌, ◌/◌, ◌%◌, ◌<◌, Bool, true, false, cond, ◌&&◌, eqb, ltb, List, length, Ok, Result, sym, refl, ap, ◌∙◌, inl, inr, mod-lt, mod-eq_of_lt, mul-add, arith}
+use Rattle.std.proofs.Common.{◌≡◌, ℕ, ◌+◌, ◌*◌, ◌/◌, ◌%◌, ◌<◌, min, Bool, true, false, cond, ◌&&◌, eqb, ltb, List, length, Ok, Result, sym, refl, ap, ◌∙◌, inl, inr, mod-lt, mod-eq_of_lt, mul-add, arith}
 use native.Mathlib.Nat.{mul-add-div, mul-add-mod_self_left, div-eq_of_lt, div-add-mod}
 use Rattle.std.proofs.lemmas.Bool.{and_parts, cases_Bool, eqb-true, eqb-false, eq-eqb, lt-ltb}
 use Rattle.device.specs.declared.fault.DeviceFault.{DeviceFault}
@@ -9,7 +9,7 @@ use Rattle.device.proofs.Outcomes.{admitted, written_ok}
 use Rattle.layers.specs.declared.home.Home.{Home}
 use Rattle.layers.specs.declared.home.Home.TheVariants.{First, Second}
 use Rattle.layers.specs.Stripes.{home, home_at, home_sound, striped, striped_size}
-use Rattle.layers.specs.Striped.{home_number}
+use Rattle.layers.specs.Striped.{home_number, some_unit}
 
 -- the block that lies at a place
 abbrev block_at : ℕ → Home → ℕ
@@ -116,19 +116,22 @@ home_answers u s t l k b len a =
     home_accepts s t l k (home u b) len d.full (and_parts (ltb b (striped_size u s.size t.size)) (home_sound s t (home u b)) d.usable).1
 
 -- a write that the stripe accepts, at its place: the device there accepts it, and the stripe has that one block replaced
-module _ (u : ℕ) (s t : Store) (l : Lawful s) (k : Lawful t) (some : 0 < u) (b : ℕ) (v : List ℕ) (a : answer (striped u s t) b (length v) ≡ Ok tt) where
+module _ (u : ℕ) (s t : Store) (l : Lawful s) (k : Lawful t) (b : ℕ) (v : List ℕ) (a : answer (striped u s t) b (length v) ≡ Ok tt) where
+  some : 0 < u
+  some = some_unit u (min (min s.size t.size) 524288) b (admitted (striped u s t) b (length v) a).there
+
   at_home : (h : Home) → home u b ≡ h → (home_answer s t h (length v) ≡ Ok tt) × (striped u (first_put h v s) (second_put h v t) ≡ written (striped u s t) b v)
   at_home h e = (
     ap (λ g. home_answer s t g (length v)) (sym e) ∙ home_answers u s t l k b (length v) a,
     ap (λ g. striped u (first_put g v s) (second_put g v t)) (sym e) ∙ (put_striped u s t b v some ∙ sym (written_ok (striped u s t) b v a)),
   )
 
-  pub write_first : (n : ℕ) → home u b ≡ First n → (answer s n (length v) ≡ answer (striped u s t) b (length v)) × (striped u (written s n v) t ≡ written (striped u s t) b v)
-  write_first n e =
+  pub write_first : (n : ℕ) → home u b ≡ First n → (x : Store) → x ≡ written s n v → striped u x t ≡ written (striped u s t) b v
+  write_first n e x q =
       let w = at_home (First n) e in
-      (w.0 ∙ sym a, ap (λ x. striped u x t) (written_ok s n v w.0) ∙ w.1)
+      ap (λ y. striped u y t) (q ∙ written_ok s n v w.0) ∙ w.1
 
-  pub write_second : (n : ℕ) → home u b ≡ Second n → (answer t n (length v) ≡ answer (striped u s t) b (length v)) × (striped u s (written t n v) ≡ written (striped u s t) b v)
-  write_second n e =
+  pub write_second : (n : ℕ) → home u b ≡ Second n → (y : Store) → y ≡ written t n v → striped u s y ≡ written (striped u s t) b v
+  write_second n e y q =
       let w = at_home (Second n) e in
-      (w.0 ∙ sym a, ap (λ x. striped u s x) (written_ok t n v w.0) ∙ w.1)
+      ap (λ x. striped u s x) (q ∙ written_ok t n v w.0) ∙ w.1

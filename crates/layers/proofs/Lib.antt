@@ -1,3 +1,2 @@
-pub mod Members
 pub mod Homes
 pub mod Copied

@@ -1,5 +1,6 @@
 -- A list of defective blocks over a store.
-use Rattle.std.specs.Prelude.{ℕ, Bool, true, false, cond, not, ◌&&◌, ◌||◌, List, [], ◌∷◌, ◌++◌, length, is_ok, Ok, Err, Result, ◌==◌, nat_lt, slice_index}
+use Rattle.std.specs.Prelude.{ℕ, Bool, true, false, cond, not, ◌&&◌, List, [], ◌∷◌, ◌++◌, length, is_ok, Ok, Err, Result, ◌==◌, nat_lt, slice_index}
+use Rattle.std.specs.List.{list_any}
 use Rattle.device.specs.Store.{Store}
 use Rattle.layers.specs.declared.defects.DefectFault.{DefectFault}
 use Rattle.layers.specs.declared.defects.DefectFault.TheVariants.{NotGreater, Full, Memory}
@@ -11,8 +12,7 @@ number_of Full = 11
 number_of Memory = 0
 
 abbrev pub listed : List ℕ → ℕ → Bool
-listed [] b = false
-listed (x ∷ xs) b = x == b || listed xs b
+listed xs b = list_any (λ x. x == b) xs
 
 -- a block is defective if it is listed, or defective below
 abbrev pub masked : List ℕ → Store → Store

@@ -1,7 +1,7 @@
 -- Two lawful stores striped into one are a lawful store.
 use Rattle.std.specs.Prelude.{◌≡◌, ℕ, ◌+◌, ◌*◌, ◌/◌, ◌%◌, ◌<◌, ◌≤◌, min, Bool, true, false, cond, length, ◌==◌, nat_lt}
 use Rattle.std.proofs.Common.{inl, inr, mul_assoc, mul_comm, mul-add, zero-mul, mul-le-mul_left, mod-lt, arith}
-use Rattle.std.proofs.Math.Nat.{mul-div-le, div-add-mod}
+use Rattle.std.proofs.Math.Nat.{mul-div-le}
 use Rattle.std.proofs.lemmas.Nat.{div_below}
 use Rattle.std.proofs.lemmas.Bool.{and_parts, ltb-true, cases_eq}
 use Rattle.device.specs.Store.{Store, Lawful}
@@ -12,15 +12,12 @@ use Rattle.layers.specs.Stripes.{home, home_at, home_sound, striped, striped_siz
 abbrev pub home_number : ℕ → ℕ → ℕ
 home_number u b = u * (b / u / 2) + b % u
 
-pub home_number_le : (u b : ℕ) → home_number u b ≤ b
-home_number_le u b = omega (arith, mul-le-mul_left {m = b / u / 2} {n = b / u} u (omega arith), div-add-mod b u)
-
 -- the size, over the smaller of the two
 module _ (u m : ℕ) where
   pub runs_le : 2 * u * (m / u) ≤ 2 * m
   runs_le = omega (arith, mul-div-le m u, mul_assoc 2 u (m / u))
 
-  some_unit : (b : ℕ) → b < 2 * u * (m / u) → 0 < u
+  pub some_unit : (b : ℕ) → b < 2 * u * (m / u) → 0 < u
   some_unit b h = elim (cases_eq u 0) [ inl e ↦ absurd (let k : b < 2 * 0 * (m / 0) = rw e at h in omega (arith, zero-mul (m / 0))) | inr n ↦ omega arith ]
 
   pub home_number_lt : (b : ℕ) → b < 2 * u * (m / u) → home_number u b < m

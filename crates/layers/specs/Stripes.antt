@@ -3,15 +3,22 @@ use Rattle.std.specs.Prelude.{ℕ, ◌+◌, ◌*◌, ◌/◌, ◌%◌, min, Bool
 use Rattle.device.specs.Store.{Store}
 use Rattle.layers.specs.declared.home.Home.{Home}
 use Rattle.layers.specs.declared.home.Home.TheVariants.{First, Second}
-use Rattle.layers.specs.declared.home.UnitFault.{UnitFault}
-use Rattle.layers.specs.declared.home.UnitFault.TheVariants.{Outside}
+use Rattle.layers.specs.declared.unit.UnitFault.{UnitFault}
+use Rattle.layers.specs.declared.unit.UnitFault.TheVariants.{Outside}
 
 abbrev pub unit_number_of : UnitFault → ℕ
 unit_number_of Outside = 9
 
 -- a unit is a number of blocks from 1 to 64
+abbrev pub is_unit : ℕ → Bool
+is_unit u = nat_le 1 u && nat_le u 64
+
+abbrev pub unit_of : ℕ → Result ℕ UnitFault
+unit_of u = cond (is_unit u) (Ok u) (Err Outside)
+
+-- what setting it answers
 abbrev pub unit_answer : ℕ → Result (Unit {0}) UnitFault
-unit_answer u = cond (nat_le 1 u && nat_le u 64) (Ok tt) (Err Outside)
+unit_answer u = cond (is_unit u) (Ok tt) (Err Outside)
 
 -- where block b lies: runs of u blocks go to the two devices in turn
 abbrev pub home : ℕ → ℕ → Home

@@ -1,13 +1,14 @@
 // A list of defective blocks over any device.
 ghost use Rattle.std.specs.Prelude.{◌≡◌, []};
 ghost use Rattle.std.specs.Vec.{vec_items as items};
-ghost use Rattle.device.specs.Answers.{answer};
 ghost use Rattle.device.specs.Loans.{Loans};
+ghost use Rattle.layers.specs.declared.defects.DefectFault.TheVariants.{Memory};
 ghost use Rattle.layers.specs.Defects.{masked, listed, rises, listing, had_room as roomy, with_listed as relisted, number_of as numbered};
 ghost use Rattle.layers.specs.Masked.{masked_lawful as lawfully};
 
 use device::{Device, DeviceFault, Source, admit};
-use std::alloc::Global;
+use refusal::Refusal;
+use std::alloc::{AllocFailed, Global};
 
 // The most numbers that a list takes.
 const MOST: usize = 16;
@@ -23,16 +24,23 @@ pub enum DefectFault {
     Memory,
 }
 
-impl DefectFault {
-    // The number by which the refusal is told; 0 for want of memory.
-    pub fn number(self) -> u8
-        ensures { result ≡ numbered self }
-    {
+impl Refusal for DefectFault {
+    ghost number_of = { numbered };
+
+    fn number(self) -> u8 {
         match self {
             DefectFault::NotGreater => 10,
             DefectFault::Full => 11,
             DefectFault::Memory => 0,
         }
+    }
+}
+
+impl<T: Drop> From<AllocFailed<T>> for DefectFault {
+    ghost from_gives = { λ _ r. r ≡ Memory };
+
+    fn from(_refused: AllocFailed<T>) -> DefectFault {
+        DefectFault::Memory
     }
 }
 
@@ -47,17 +55,7 @@ pub struct DefectList<D> {
 fn rises_above(numbers: &[u32], n: u32) -> bool
     ensures { result ≡ rises numbers.now n }
 {
-    match numbers.last() {
-        Some(last) => *last < n,
-        None => true,
-    }
-}
-
-// Whether `b` is one of the numbers.
-fn holds(numbers: &[u32], b: u32) -> bool
-    ensures { result ≡ listed numbers.now b }
-{
-    numbers.contains(&b)
+    numbers.last().is_none_or(|last| *last < n)
 }
 
 impl<D> DefectList<D> {
@@ -84,10 +82,8 @@ impl<D> DefectList<D> {
         if self.numbers.len() >= MOST {
             return Err(DefectFault::Full);
         }
-        match self.numbers.push(n) {
-            Ok(()) => Ok(()),
-            Err(_) => Err(DefectFault::Memory),
-        }
+        self.numbers.push(n)?;
+        Ok(())
     }
 
     // Ends the list and gives its device back.
@@ -103,17 +99,7 @@ impl<D> DefectList<D> {
     pub fn is_listed(&self, b: u32) -> bool
         ensures { result ≡ listed (items self.now.numbers) b }
     {
-        holds(&self.numbers, b)
-    }
-}
-
-impl<D: Source> DefectList<D> {
-    // Checks a read or a write of block `b` with a buffer of `len` bytes.
-    fn admit_block(&self, b: u32, len: usize) -> Result<(), DeviceFault>
-        ensures { result ≡ answer (masked (items self.now.numbers) (D.Source.store self.now.below)) b len }
-    {
-        let sound = self.below.is_sound(b) && !self.is_listed(b);
-        admit(len, b, self.below.blocks(), sound)
+        self.numbers.contains(&b)
     }
 }
 
@@ -131,7 +117,7 @@ impl<D: Source> Source for DefectList<D> {
     }
 
     fn read(&self, b: u32, buffer: &mut [u8]) -> Result<(), DeviceFault> {
-        self.admit_block(b, buffer.len())?;
+        admit(buffer.len(), b, self.blocks(), self.is_sound(b))?;
         self.below.read(b, buffer)
     }
 }
@@ -140,7 +126,7 @@ impl<D: Device> Device for DefectList<D> {
     ghost loans = { λ x. Loans.listed (items x.numbers) (D.Device.loans x.below) };
 
     fn write(&mut self, b: u32, bytes: &[u8]) -> Result<(), DeviceFault> {
-        self.admit_block(b, bytes.len())?;
+        admit(bytes.len(), b, self.blocks(), self.is_sound(b))?;
         self.below.write(b, bytes)
     }
 }

@@ -1,10 +1,12 @@
 // Restoring: every block of a source to the same number on a device.
 ghost use Rattle.std.specs.Prelude.{◌≡◌, ◌&&◌, length, Ok};
+ghost use Rattle.device.specs.Below.{all_below};
 ghost use Rattle.layers.specs.declared.restoring.RestoreFault.TheVariants.{Block};
 ghost use Rattle.layers.specs.Restores.{number_of as numbered, restore_answer as answered, restored, copied};
 ghost use Rattle.layers.specs.Copies.{copy_answer as one_answer, copy_store as one_store};
 
 use device::{BLOCK, Device, DeviceFault, Source};
+use refusal::Refusal;
 
 // Why nothing was restored.
 #[derive(Clone, Copy, PartialEq, Eq, Debug)]
@@ -15,11 +17,10 @@ pub enum RestoreFault {
     Block(DeviceFault),
 }
 
-impl RestoreFault {
-    // The number by which the refusal is told.
-    pub fn number(self) -> u8
-        ensures { result ≡ numbered self }
-    {
+impl Refusal for RestoreFault {
+    ghost number_of = { numbered };
+
+    fn number(self) -> u8 {
         match self {
             RestoreFault::Short => 12,
             RestoreFault::Block(fault) => fault.number(),
@@ -42,6 +43,13 @@ fn both_sound<S: Source, D: Source>(source: &S, device: &D, b: u32) -> bool
     source.is_sound(b) && device.is_sound(b)
 }
 
+// Whether every block below `blocks` is sound in both.
+fn all_sound<S: Source, D: Source>(source: &S, device: &D, blocks: u32) -> bool
+    ensures { result ≡ all_below (λ b. (S.Source.store source.now).sound b && (D.Source.store device.now).sound b) blocks }
+{
+    (0..blocks).all(|b| both_sound(source, device, b))
+}
+
 // Checks everything before the first write, and tells how many blocks there are to restore.
 fn check_all<S: Source, D: Source>(source: &S, device: &D) -> Result<u32, RestoreFault>
     ensures { result ≡ answered (S.Source.store source.now) (D.Source.store device.now) }
@@ -50,10 +58,8 @@ fn check_all<S: Source, D: Source>(source: &S, device: &D) -> Result<u32, Restor
     if device.blocks() < blocks {
         return Err(RestoreFault::Short);
     }
-    for b in 0..blocks {
-        if !both_sound(source, device, b) {
-            return Err(RestoreFault::Block(DeviceFault::Defective));
-        }
+    if !all_sound(source, device, blocks) {
+        return Err(RestoreFault::Block(DeviceFault::Defective));
     }
     Ok(blocks)
 }

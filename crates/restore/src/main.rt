@@ -4,6 +4,7 @@
 use device::{Archive, Image, Source};
 use files::{read_all, write_over};
 use layers::RestoreFault;
+use refusal::Refusal;
 use restoring::restore_image;
 use std::io;
 
@@ -15,20 +16,15 @@ const IMAGE: &str = "image.bin";
 fn record(rt: &HostRuntime, outcome: Result<u32, RestoreFault>) -> io::Result<()> {
     match outcome {
         Ok(blocks) => println!(rt; "restored {blocks}"),
-        Err(fault) => {
-            let number = fault.number();
-            println!(rt; "refused {number}")
-        }
+        Err(fault) => println!(rt; "refused {}", fault.number()),
     }
 }
 
 fn run(rt: &HostRuntime) -> anyhow::Result<()> {
     let archive = read_all(rt, ARCHIVE)?;
     let mut image = read_all(rt, IMAGE)?;
-    let source = Archive::new(&archive).blocks();
-    let device = Image::new(&mut image).blocks();
-    println!(rt; "source blocks {source}")?;
-    println!(rt; "device blocks {device}")?;
+    println!(rt; "source blocks {}", Archive::new(&archive).blocks())?;
+    println!(rt; "device blocks {}", Image::new(&mut image).blocks())?;
     let outcome = restore_image(&archive, &mut image);
     if let Ok(1..) = outcome {
         write_over(rt, IMAGE, &image)?;

@@ -1,10 +1,10 @@
 -- Every place of the two devices of a stripe is the place of some block, so the stripe's blocks tell both.
-use Rattle.std.proofs.Common.{◌≡◌, ℕ, ◌+◌, ◌*◌, ◌/◌, ◌%◌, ◌<◌, cond, ltb, Ok, Err, Result, sym, ap, ◌∙◌, mod-lt, mod-eq_of_lt, arith}
+use Rattle.std.proofs.Common.{◌≡◌, ℕ, ◌+◌, ◌*◌, ◌/◌, ◌%◌, ◌<◌, cond, inl, inr, leb, ltb, Ok, Err, Result, sym, ap, ◌∙◌, mod-lt, mod-eq_of_lt, arith}
 use native.Mathlib.Nat.{mul-add-div, mul-add-mod_self_left, div-eq_of_lt, div-add-mod}
-use Rattle.std.proofs.lemmas.Bool.{eq-eqb, ne_eqb}
+use Rattle.std.proofs.lemmas.Bool.{and_parts, cases_Bool, eq-eqb, leb-true, ne_eqb}
 use Rattle.device.specs.Store.{Store}
 use Rattle.layers.specs.declared.home.Home.TheVariants.{First, Second}
-use Rattle.layers.specs.Stripes.{home, home_at, striped}
+use Rattle.layers.specs.Stripes.{home, home_at, striped, is_unit, unit_of}
 use Rattle.restoring.specs.declared.stack.StackFault.{StackFault}
 use Rattle.restoring.specs.Stacks.{blocks_after, first_block, second_block, first_after, second_after}
 
@@ -46,3 +46,11 @@ module _ (u : ℕ) (some : 0 < u) where
     λ i n. (sym (ap (λ h. home_at c d h) (first_home n)) ∙ (ap (λ g. g (first_block u n)) e ∙ ap (λ h. home_at a b h) (first_home n))) i,
     λ i n. (sym (ap (λ h. home_at c d h) (second_home n)) ∙ (ap (λ g. g (second_block u n)) e ∙ ap (λ h. home_at a b h) (second_home n))) i,
   )
+
+-- a number that is a unit is above 0
+pub unit_some : (u v : ℕ) → ◌≡◌ (Ok v) (unit_of u) → (v ≡ u) × (0 < u)
+unit_some u v h =
+    elim (cases_Bool (is_unit u)) [
+      | inl e ↦ (let g : ◌≡◌ (Ok v) (Ok u) = rw e at h in cc, leb-true 1 u (and_parts (leb 1 u) (leb u 64) e).0)
+      | inr e ↦ absurd (let g = rw e at h in let z : ◌≡◌ {A = ℕ} 0 1 = cc in omega arith)
+    ]

@@ -5,4 +5,4 @@ mod single;
 mod stack;
 
 pub use single::restore_image;
-pub use stack::{StackFault, restore_images};
+pub use stack::{StackFault, Striping, restore_images};

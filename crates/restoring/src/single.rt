@@ -17,18 +17,11 @@ fn restore_blocks(archive: &[u8], image: &mut [u8]) -> Result<u32, RestoreFault>
     restore(&source, &mut device)
 }
 
-// Restores an archive onto an image, of which the blocks tell the bytes.
-fn restore_bytes(archive: &[u8], image: &mut [u8]) -> Result<u32, RestoreFault>
-    ensures answer { result ≡ answered archive.now image.old }
-    ensures image { image.new ≡ refilled archive.now image.old }
-{
-    restore_blocks(archive, image)
-}
-
 // Restores an archive onto an image, and tells how many blocks there were.
+#[tactic(auto, using(crate::proofs::Refilled::refilled))]
 pub fn restore_image(archive: &[u8], image: &mut [u8]) -> Result<u32, RestoreFault>
     ensures answer { result ≡ answered archive.now image.old }
     ensures image { image.new ≡ refilled archive.now image.old }
 {
-    restore_bytes(archive, image)
+    restore_blocks(archive, image)
 }

@@ -10,8 +10,16 @@ ghost use Rattle.layers.specs.Defects.{had_room as roomy};
 ghost use Rattle.restoring.specs.Stacks.{number_of as numbered, list_answer as all_answer, listed_answer, stack_answer, memory_or, blocks_after, first_after, second_after, BlocksTell};
 
 use device::{Archive, Device, Image, Source};
-use layers::{DefectFault, DefectList, RestoreFault, Stripe, UnitFault, restore};
+use layers::{DefectFault, DefectList, RestoreFault, Stripe, Unit, UnitFault, restore};
+use refusal::Refusal;
 use std::alloc::Global;
+
+// How two devices are striped: the unit, and which blocks of the stripe are defective, in rising order.
+#[derive(Clone, Copy)]
+pub struct Striping<'a> {
+    pub unit: u32,
+    pub defects: &'a [u32],
+}
 
 // Why nothing was restored onto the stripe.
 #[derive(Clone, Copy, PartialEq, Eq, Debug)]
@@ -21,11 +29,10 @@ pub enum StackFault {
     Restore(RestoreFault),
 }
 
-impl StackFault {
-    // The number by which the refusal is told; 0 for want of memory.
-    pub fn number(self) -> u8
-        ensures { result ≡ numbered self }
-    {
+impl Refusal for StackFault {
+    ghost number_of = { numbered };
+
+    fn number(self) -> u8 {
         match self {
             StackFault::Unit(fault) => fault.number(),
             StackFault::Defects(fault) => fault.number(),
@@ -103,41 +110,23 @@ fn restore_listed<S: Source, D: Device>(
     r
 }
 
-// Sets the unit and restores onto the stripe.
-fn restore_on<S: Source, D: Device, E: Device>(
-    heap: Global,
-    source: &S,
-    stripe: &mut Stripe<D, E>,
-    unit: u32,
-    numbers: &[u32],
-) -> Result<u32, StackFault>
-    ensures answer { result ≡ memory_or result (stack_answer unit numbers.now (S.Source.store source.now) (D.Source.store stripe.old.first) (E.Source.store stripe.old.second)) }
-    ensures first { (D.Source.store stripe.new.first).at ≡ first_after result unit (S.Source.store source.now) (D.Source.store stripe.old.first) }
-    ensures second { (E.Source.store stripe.new.second).at ≡ second_after result unit (S.Source.store source.now) (E.Source.store stripe.old.second) }
-    ensures first_loans { D.Device.loans stripe.new.first ≡ D.Device.loans stripe.old.first }
-    ensures second_loans { E.Device.loans stripe.new.second ≡ E.Device.loans stripe.old.second }
-{
-    stripe.set_unit(unit)?;
-    restore_listed(heap, source, stripe, numbers)
-}
-
-// Restores onto a stripe of two devices of which the numbers are defective.
+// Restores onto a stripe of two devices, with its unit and its defects.
 fn restore_striped<S: Source, D: Device, E: Device>(
     heap: Global,
     source: &S,
     first: &mut D,
     second: &mut E,
-    unit: u32,
-    numbers: &[u32],
+    how: Striping,
 ) -> Result<u32, StackFault>
-    ensures answer { result ≡ memory_or result (stack_answer unit numbers.now (S.Source.store source.now) (D.Source.store first.old) (E.Source.store second.old)) }
-    ensures first { (D.Source.store first.new).at ≡ first_after result unit (S.Source.store source.now) (D.Source.store first.old) }
-    ensures second { (E.Source.store second.new).at ≡ second_after result unit (S.Source.store source.now) (E.Source.store second.old) }
+    ensures answer { result ≡ memory_or result (stack_answer how.entry.unit how.entry.defects.now (S.Source.store source.now) (D.Source.store first.old) (E.Source.store second.old)) }
+    ensures first { (D.Source.store first.new).at ≡ first_after result how.entry.unit (S.Source.store source.now) (D.Source.store first.old) }
+    ensures second { (E.Source.store second.new).at ≡ second_after result how.entry.unit (S.Source.store source.now) (E.Source.store second.old) }
     ensures first_loans { D.Device.loans first.new ≡ D.Device.loans first.old }
     ensures second_loans { E.Device.loans second.new ≡ E.Device.loans second.old }
 {
-    let mut stripe = Stripe::new(first, second);
-    restore_on(heap, source, &mut stripe, unit, numbers)
+    let unit = Unit::try_from(how.unit)?;
+    let mut stripe = Stripe::with_unit(first, second, unit);
+    restore_listed(heap, source, &mut stripe, how.defects)
 }
 
 // Restores an archive onto two images, striped; each still stands over the slice that it stood over.
@@ -146,16 +135,15 @@ fn restore_devices(
     source: &Archive,
     first: &mut Image,
     second: &mut Image,
-    unit: u32,
-    numbers: &[u32],
+    how: Striping,
 ) -> Result<u32, StackFault>
-    ensures answer { result ≡ memory_or result (stack_answer unit numbers.now (seen source.now.bytes.now) (seen first.old.bytes.now) (seen second.old.bytes.now)) }
-    ensures first { (seen first.new.bytes.now).at ≡ first_after result unit (seen source.now.bytes.now) (seen first.old.bytes.now) }
-    ensures second { (seen second.new.bytes.now).at ≡ second_after result unit (seen source.now.bytes.now) (seen second.old.bytes.now) }
+    ensures answer { result ≡ memory_or result (stack_answer how.entry.unit how.entry.defects.now (seen source.now.bytes.now) (seen first.old.bytes.now) (seen second.old.bytes.now)) }
+    ensures first { (seen first.new.bytes.now).at ≡ first_after result how.entry.unit (seen source.now.bytes.now) (seen first.old.bytes.now) }
+    ensures second { (seen second.new.bytes.now).at ≡ second_after result how.entry.unit (seen source.now.bytes.now) (seen second.old.bytes.now) }
     ensures first_loans { lent first.new.bytes.ghost_name owned ≡ lent first.old.bytes.ghost_name owned }
     ensures second_loans { lent second.new.bytes.ghost_name owned ≡ lent second.old.bytes.ghost_name owned }
 {
-    restore_striped(heap, source, first, second, unit, numbers)
+    restore_striped(heap, source, first, second, how)
 }
 
 // Restores an archive onto two striped images, block by block.
@@ -164,17 +152,16 @@ fn restore_image_blocks(
     archive: &[u8],
     first: &mut [u8],
     second: &mut [u8],
-    unit: u32,
-    numbers: &[u32],
+    how: Striping,
 ) -> Result<u32, StackFault>
-    ensures answer { result ≡ memory_or result (stack_answer unit numbers.now (seen archive.now) (seen first.old) (seen second.old)) }
-    ensures first { (seen first.new).at ≡ first_after result unit (seen archive.now) (seen first.old) }
-    ensures second { (seen second.new).at ≡ second_after result unit (seen archive.now) (seen second.old) }
+    ensures answer { result ≡ memory_or result (stack_answer how.entry.unit how.entry.defects.now (seen archive.now) (seen first.old) (seen second.old)) }
+    ensures first { (seen first.new).at ≡ first_after result how.entry.unit (seen archive.now) (seen first.old) }
+    ensures second { (seen second.new).at ≡ second_after result how.entry.unit (seen archive.now) (seen second.old) }
 {
     let source = Archive::new(archive);
     let mut a = Image::new(first);
     let mut b = Image::new(second);
-    restore_devices(heap, &source, &mut a, &mut b, unit, numbers)
+    restore_devices(heap, &source, &mut a, &mut b, how)
 }
 
 // Restores an archive onto two striped images, of which the blocks tell the bytes.
@@ -183,16 +170,15 @@ fn restore_image_bytes(
     archive: &[u8],
     first: &mut [u8],
     second: &mut [u8],
-    unit: u32,
-    numbers: &[u32],
+    how: Striping,
 ) -> Result<u32, StackFault>
-    ensures answer { result ≡ memory_or result (stack_answer unit numbers.now (seen archive.now) (seen first.old) (seen second.old)) }
-    ensures first { (seen first.new).at ≡ first_after result unit (seen archive.now) (seen first.old) }
-    ensures second { (seen second.new).at ≡ second_after result unit (seen archive.now) (seen second.old) }
+    ensures answer { result ≡ memory_or result (stack_answer how.entry.unit how.entry.defects.now (seen archive.now) (seen first.old) (seen second.old)) }
+    ensures first { (seen first.new).at ≡ first_after result how.entry.unit (seen archive.now) (seen first.old) }
+    ensures second { (seen second.new).at ≡ second_after result how.entry.unit (seen archive.now) (seen second.old) }
     ensures refused { is_ok result ≡ false → (first.new ≡ first.old) × (second.new ≡ second.old) }
     ensures told { BlocksTell }
 {
-    restore_image_blocks(heap, archive, first, second, unit, numbers)
+    restore_image_blocks(heap, archive, first, second, how)
 }
 
 // Restores an archive onto two striped images, some blocks of the stripe being defective, and tells how many blocks there were.
@@ -202,14 +188,13 @@ pub fn restore_images(
     archive: &[u8],
     first: &mut [u8],
     second: &mut [u8],
-    unit: u32,
-    numbers: &[u32],
+    how: Striping,
 ) -> Result<u32, StackFault>
-    ensures answer { result ≡ memory_or result (stack_answer unit numbers.now (seen archive.now) (seen first.old) (seen second.old)) }
-    ensures first { (seen first.new).at ≡ first_after result unit (seen archive.now) (seen first.old) }
-    ensures second { (seen second.new).at ≡ second_after result unit (seen archive.now) (seen second.old) }
+    ensures answer { result ≡ memory_or result (stack_answer how.entry.unit how.entry.defects.now (seen archive.now) (seen first.old) (seen second.old)) }
+    ensures first { (seen first.new).at ≡ first_after result how.entry.unit (seen archive.now) (seen first.old) }
+    ensures second { (seen second.new).at ≡ second_after result how.entry.unit (seen archive.now) (seen second.old) }
     ensures refused { is_ok result ≡ false → (first.new ≡ first.old) × (second.new ≡ second.old) }
     ensures told { BlocksTell }
 {
-    restore_image_bytes(heap, archive, first, second, unit, numbers)
+    restore_image_bytes(heap, archive, first, second, how)
 }
