@@ -1,5 +1,5 @@
 -- Tallies as an array of which a part is used, and as a list.
-use Rattle.std.proofs.Common.{◌≡◌, ℕ, zero, suc, ◌+◌, ◌-◌, ◌<◌, ◌≤◌, List, [], ◌∷◌, length, get_or, take, set, Some, None, sym, refl, ap, ◌∙◌, inl, inr, add-one, arith}
+use Rattle.std.proofs.Common.{◌≡◌, ℕ, zero, suc, ◌+◌, ◌-◌, ◌<◌, ◌≤◌, List, [], ◌∷◌, length, get_or, slice_get, take, set, None, sym, refl, ap, ◌∙◌, inl, inr, add-one, arith}
 use Rattle.std.proofs.lemmas.Bool.{cases_eq, ne_eqb}
 use Rattle.tier.specs.Questions.{nth, told}
 use Rattle.pile.specs.Piles.{add_at}
@@ -58,29 +58,19 @@ raised_told hs level h =
     far : (told level ≡ level → ⊥) → length hs < level
     far n = grind arith
 
-nth_at : (hs : List ℕ) (i : ℕ) → i < length hs → nth hs (suc i) ≡ Some (get_or hs i 0)
-nth_at [] i h = absurd (omega arith)
-nth_at (x ∷ hs) zero h = refl
-nth_at (x ∷ hs) (suc i) h = rw (ne_eqb (suc (suc i)) 1 (λ e. omega arith)) (ap (λ j. nth hs j) (omega arith) ∙ nth_at hs i (omega arith))
+nth_get : (hs : List ℕ) (i : ℕ) → nth hs (i + 1) ≡ slice_get hs i
+nth_get [] i = refl
+nth_get (x ∷ hs) zero = refl
+nth_get (x ∷ hs) (suc i) = rw (ne_eqb (suc i + 1) 1 (λ e. omega arith)) (ap (λ j. nth hs j) (omega arith) ∙ nth_get hs i)
 
 -- what stands at a place counted from 1
-pub nth_within : (hs : List ℕ) (level : ℕ) → 1 ≤ level → level ≤ length hs → nth hs level ≡ Some (get_or hs (level - 1) 0)
-nth_within hs zero h k = absurd (omega arith)
-nth_within hs (suc i) h k = nth_at hs i (omega arith) ∙ ap (λ j. Some (get_or hs j 0)) (omega arith)
+pub nth_from : (hs : List ℕ) (level i : ℕ) → i + 1 ≡ level → slice_get hs i ≡ nth hs level
+nth_from hs level i e = sym (nth_get hs i) ∙ ap (λ j. nth hs j) e
 
 nth_zero : {X : Type 0} (xs : List X) → nth xs 0 ≡ None
 nth_zero [] = refl
 nth_zero (x ∷ xs) = nth_zero xs
 
-nth_past : {X : Type 0} (xs : List X) (level : ℕ) → length xs < level → nth xs level ≡ None
-nth_past [] level h = refl
-nth_past (x ∷ xs) level h =
-    rw (ne_eqb level 1 (λ e. omega arith)) (nth_past xs (level - 1) (omega arith))
-
--- nothing stands at place 0, or past the last
-pub nth_outside : {X : Type 0} (xs : List X) (level : ℕ) → (1 ≤ level → level ≤ length xs → ⊥) → nth xs level ≡ None
-nth_outside xs zero h = nth_zero xs
-nth_outside xs (suc n) h = nth_past xs (suc n) (far h)
-  where
-    far : (1 ≤ suc n → suc n ≤ length xs → ⊥) → length xs < suc n
-    far g = grind arith
+-- nothing stands at place 0
+pub nth_none : (hs : List ℕ) (level : ℕ) → level ≡ 0 → None ≡ nth hs level
+nth_none hs level e = sym (ap (λ j. nth hs j) e ∙ nth_zero hs)

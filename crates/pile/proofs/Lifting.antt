@@ -1,20 +1,14 @@
 -- What the label of a lifted block tells of where it was.
-use Rattle.std.proofs.Common.{◌≡◌, ℕ, ◌≤◌, length, Some, None, Option, sym, ap, ◌∙◌, arith}
+use Rattle.std.proofs.Common.{◌≡◌, ◌≤◌, length, Some, None, Option, refl}
 use Rattle.std.specs.Option.{option_map}
-use Rattle.tier.specs.declared.faults.Lifted.{Lifted}
 use Rattle.tier.specs.Lifts.{Found, label_of}
 use Rattle.tier.specs.Models.{Model}
-use Rattle.pile.specs.Piles.{Pile, add_at, counted}
+use Rattle.pile.specs.Piles.{Pile, counted}
+use Rattle.pile.specs.Tallies.{hits_with, floor_with}
 use Rattle.pile.proofs.Counts.{raised_told}
 
-pub label_mark : (o : Option Found) (l : Lifted) → option_map label_of o ≡ Some l → Some l.mark ≡ option_map (λ f. f.entry.mark) o
-label_mark None l h = let z : ◌≡◌ {A = ℕ} 0 1 = cc in absurd (omega arith)
-label_mark (Some f) l h = let e : label_of f ≡ l = cc in ap (λ x. Some x.mark) (sym e)
-
 -- the level that is told is the one to count for
-pub label_counts : (o : Option Found) (l : Lifted) (m : Model) (p : Pile) → option_map label_of o ≡ Some l → length p.hits ≤ 8
-    → ◌≡◌ {A = Pile} record { tier = m; hits = add_at l.level p.hits; floor = p.floor } (counted o m p)
-label_counts None l m p h k = let z : ◌≡◌ {A = ℕ} 0 1 = cc in absurd (omega arith)
-label_counts (Some f) l m p h k =
-    let e : label_of f ≡ l = cc in
-    λ i. record { tier = m; hits = (ap (λ x. add_at x.level p.hits) (sym e) ∙ raised_told p.hits f.level k) i; floor = p.floor }
+pub counted_told : (o : Option Found) (m : Model) (p : Pile) → length p.hits ≤ 8
+    → ◌≡◌ {A = Pile} record { tier = m; hits = hits_with (option_map (λ l. l.level) (option_map label_of o)) p.hits; floor = floor_with (option_map (λ l. l.level) (option_map label_of o)) p.floor } (counted o m p)
+counted_told None m p h = refl
+counted_told (Some f) m p h = λ i. record { tier = m; hits = raised_told p.hits f.level h i; floor = p.floor }

@@ -1,6 +1,7 @@
 -- Which rows have an entry, as their first places tell.
-use Rattle.std.proofs.Common.{◌≡◌, ℕ, zero, suc, ◌<◌, true, false, ltb, List, [], ◌∷◌, ◌++◌, length, is_some, Ok, sym, refl, ap, ◌∙◌, inl, inr, arith}
-use Rattle.std.proofs.lemmas.Bool.{cases_Bool, ne_eqb, or_left, or_right, or_from, or_parts, true≢false}
+use Rattle.std.proofs.Common.{◌≡◌, ℕ, zero, suc, ◌+◌, Bool, true, false, ◌||◌, ltb, List, [], ◌∷◌, ◌++◌, length, is_some, Ok, refl, ap, ◌∙◌, inl, inr, arith}
+use Rattle.std.specs.List.{list_any, range_with_len}
+use Rattle.std.proofs.lemmas.Bool.{cases_Bool, ne_eqb, or_parts, true≢false}
 use Rattle.row.specs.Entries.{Entry, RowModel}
 use Rattle.tier.specs.Models.{Model, LawfulModel}
 use Rattle.tier.specs.Questions.{entry_of}
@@ -13,20 +14,22 @@ first_of : (r : RowModel) (rs : List RowModel) (es : List Entry) → r.entries �
 first_of r rs [] q = rw q
 first_of r rs (e ∷ es) q = rw q
 
-deeper : (r : RowModel) (rs : List RowModel) (i : ℕ) → entry_of (r ∷ rs) (suc (suc i)) 1 ≡ entry_of rs (suc i) 1
-deeper r rs i = rw (ne_eqb (suc (suc i)) 1 (λ e. omega arith)) (ap (λ j. entry_of rs j 1) (omega arith))
+deeper : (r : RowModel) (rs : List RowModel) (i : ℕ) → entry_of (r ∷ rs) (i + 1 + 1) 1 ≡ entry_of rs (i + 1) 1
+deeper r rs i = rw (ne_eqb (i + 1 + 1) 1 (λ e. omega arith)) (ap (λ j. entry_of rs j 1) (omega arith))
 
--- an entry at a first place
-pub entry_there : (rs : List RowModel) (i : ℕ) → is_some (entry_of rs (suc i) 1) ≡ true → has_entry rs ≡ true
-entry_there [] i h = absurd (true≢false (sym h))
-entry_there (r ∷ rs) zero h = or_left (some r.entries) (has_entry rs) (sym (first_of r rs r.entries refl) ∙ h)
-entry_there (r ∷ rs) (suc i) h = or_right (some r.entries) (has_entry rs) (entry_there rs i (sym (ap is_some (deeper r rs i)) ∙ h))
+any_up : (f : ℕ → Bool) (a n : ℕ) → list_any f (range_with_len (a + 1) n) ≡ list_any (λ i. f (i + 1)) (range_with_len a n)
+any_up f a zero = refl
+any_up f a (suc n) = ap (λ t. f (a + 1) || t) (any_up f (a + 1) n)
 
--- none at any first place
-pub none_there : (rs : List RowModel) → ((i : ℕ) → i < length rs → is_some (entry_of rs (suc i) 1) ≡ false) → has_entry rs ≡ false
-none_there [] h = refl
-none_there (r ∷ rs) h =
-    or_from (some r.entries) (has_entry rs) (sym (first_of r rs r.entries refl) ∙ h 0 (omega arith)) (none_there rs (λ i k. sym (ap is_some (deeper r rs i)) ∙ h (suc i) (omega arith)))
+-- an entry at any first place
+pub any_first : (rs : List RowModel) → list_any (λ i. is_some (entry_of rs (i + 1) 1)) (range_with_len 0 (length rs)) ≡ has_entry rs
+any_first [] = refl
+any_first (r ∷ rs) = λ j. first_of r rs r.entries refl j || rest (any_first rs) j
+  where
+    rest : list_any (λ i. is_some (entry_of rs (i + 1) 1)) (range_with_len 0 (length rs)) ≡ has_entry rs
+        → list_any (λ i. is_some (entry_of (r ∷ rs) (i + 1) 1)) (range_with_len 1 (length rs)) ≡ has_entry rs
+    rest go = any_up (λ i. is_some (entry_of (r ∷ rs) (i + 1) 1)) 0 (length rs)
+        ∙ (ap (λ (f : ℕ → Bool). list_any f (range_with_len 0 (length rs))) (λ j i. is_some (deeper r rs i j)) ∙ go)
 
 none_in : (es : List Entry) → some es ≡ false → es ≡ []
 none_in [] h = refl

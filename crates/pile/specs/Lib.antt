@@ -6,3 +6,4 @@ pub mod Refusals
 pub mod Tallies
 pub mod Mounts
 pub mod Reads
+pub mod Mounted

@@ -1,11 +1,12 @@
 // Why a pile refused.
 ghost use Rattle.std.specs.Prelude.{◌≡◌};
-ghost use Rattle.pile.specs.Refusals.{number_of as numbered};
+ghost use Rattle.pile.specs.Refusals.{number_of as numbered, demotion_fault};
 ghost use Rattle.pile.specs.Mounts.{mount_number_of as mount_numbered};
-ghost use Rattle.pile.specs.declared.faults.PileFault.TheVariants.{Device as OfDevice};
+ghost use Rattle.pile.specs.declared.faults.PileFault.TheVariants.{Device as OfDevice, Dropped as OfDropped};
 
 use device::DeviceFault;
-use tier::Dropped;
+use refusal::Refusal;
+use tier::{DemoteFault, Dropped};
 
 // Why a read, a write or a sync was refused.
 #[derive(Clone, Copy, PartialEq, Eq, Debug)]
@@ -18,11 +19,10 @@ pub enum PileFault {
     Dropped(Dropped),
 }
 
-impl PileFault {
-    // The number by which the refusal is told.
-    pub fn number(self) -> u8
-        ensures { result ≡ numbered self }
-    {
+impl Refusal for PileFault {
+    ghost number_of = { numbered };
+
+    fn number(self) -> u8 {
         match self {
             PileFault::Device(fault) => fault.number(),
             PileFault::Full => 4,
@@ -39,6 +39,29 @@ impl From<DeviceFault> for PileFault {
     }
 }
 
+impl From<Dropped> for PileFault {
+    ghost from_gives = { λ d r. r ≡ OfDropped d };
+
+    fn from(dropped: Dropped) -> PileFault {
+        PileFault::Dropped(dropped)
+    }
+}
+
+// A pile's blocks are whole, so that a demotion is refused by the stored blocks alone.
+impl From<DemoteFault> for PileFault {
+    ghost from_gives = { λ f r. r ≡ demotion_fault f };
+
+    fn from(fault: DemoteFault) -> PileFault {
+        match fault {
+            DemoteFault::Length(victim) => {
+                let _ = victim.open();
+                PileFault::Device(DeviceFault::Length)
+            }
+            DemoteFault::Dropped(dropped) => PileFault::Dropped(dropped),
+        }
+    }
+}
+
 // Why a tier was not mounted.
 #[derive(Clone, Copy, PartialEq, Eq, Debug)]
 pub enum MountFault {
@@ -48,11 +71,10 @@ pub enum MountFault {
     Levels,
 }
 
-impl MountFault {
-    // The number by which the refusal is told.
-    pub fn number(self) -> u8
-        ensures { result ≡ mount_numbered self }
-    {
+impl Refusal for MountFault {
+    ghost number_of = { mount_numbered };
+
+    fn number(self) -> u8 {
         match self {
             MountFault::Entries => 6,
             MountFault::Levels => 7,

@@ -7,16 +7,13 @@ ghost use Rattle.tier.specs.Demotions.{demoted};
 ghost use Rattle.tier.specs.Tiers.{model_of};
 ghost use Rattle.pile.specs.Piles.{read, write, sync, answered, stepped, admitted, counted, touches, mounted, fetched, dropped_result};
 ghost use Rattle.pile.specs.Mounts.{has_entry as holding, mount_answer};
-ghost use Rattle.pile.specs.Tallies.{pile_of as pile};
+ghost use Rattle.pile.specs.Mounted.{pile_model as pile};
 
 use crate::faults::{MountFault, PileFault};
-use crate::tallies::Tallies;
-use device::{BLOCK, DeviceFault, admit};
+use crate::tallies::{LEVELS, Tallies};
+use device::{BLOCK, admit};
 use row::Mark;
-use tier::{DemoteFault, Tier, Victim};
-
-// The most levels of a pile.
-const LEVELS: u8 = 8;
+use tier::{Tier, Victim};
 
 // The most touches of a pile.
 const TOUCHES: u64 = 4000000000;
@@ -40,12 +37,7 @@ fn has_entry<T: Tier>(tier: &T, levels: u8) -> bool
     requires { length (T.Tier.model tier.now).rows ≡ levels }
     ensures { result ≡ holding (T.Tier.model tier.now).rows }
 {
-    for above in 0..levels {
-        if tier.entry(u32::from(above) + 1, 1).is_some() {
-            return true;
-        }
-    }
-    false
+    (0..levels).any(|above| tier.entry(u32::from(above) + 1, 1).is_some())
 }
 
 // Why a tier cannot be mounted, if it cannot.
@@ -53,7 +45,7 @@ pub fn check_mount<T: Tier>(tier: &T) -> Result<(), MountFault>
     ensures { result ≡ mount_answer (T.Tier.model tier.now) }
 {
     let levels = tier.levels();
-    if levels > LEVELS {
+    if usize::from(levels) > LEVELS {
         return Err(MountFault::Levels);
     }
     if has_entry(tier, levels) {
@@ -65,7 +57,7 @@ pub fn check_mount<T: Tier>(tier: &T) -> Result<(), MountFault>
 impl<T: Tier> Pile<T> {
     // Mounts a tier that has at most 8 levels and no entry; another is given back.
     pub fn mount(tier: T) -> Result<Pile<T>, Refused<T>>
-        ensures { elim result [ Ok p ↦ (mount_answer (T.Tier.model tier) ≡ Ok tt) × (p.tier ≡ tier) × (pile (T.Tier.model p.tier) p.tallies ≡ mounted (T.Tier.model tier)) | Err e ↦ (mount_answer (T.Tier.model tier) ≡ Err e.fault) × (e.tier ≡ tier) ] }
+        ensures { elim result [ Ok p ↦ (mount_answer (T.Tier.model tier) ≡ Ok tt) × (p.tier ≡ tier) × (pile T.Tier.model p ≡ mounted (T.Tier.model tier)) | Err e ↦ (mount_answer (T.Tier.model tier) ≡ Err e.fault) × (e.tier ≡ tier) ] }
     {
         match check_mount(&tier) {
             Ok(()) => {
@@ -78,7 +70,7 @@ impl<T: Tier> Pile<T> {
 
     // Checks a read or a write of block `b` with a buffer of `len` bytes.
     fn admit_touch(&self, b: u32, len: usize) -> Result<(), PileFault>
-        ensures { result ≡ admitted (pile (T.Tier.model self.now.tier) self.now.tallies) b len }
+        ensures { result ≡ admitted (pile T.Tier.model self.now) b len }
     {
         admit(len, b, self.tier.blocks(), self.tier.is_sound(b))?;
         if self.tallies.touches() >= TOUCHES {
@@ -90,22 +82,15 @@ impl<T: Tier> Pile<T> {
     // Takes block `b` out of the level that has it, and counts the touch for that level, or for the floor.
     fn lift(&mut self, b: u32, buffer: &mut [u8]) -> Option<Mark>
         requires whole { length buffer.old ≡ 256 }
-        requires few { touches (pile (T.Tier.model self.old.tier) self.old.tallies) < 4000000000 }
+        requires few { touches (pile T.Tier.model self.old) < 4000000000 }
         ensures answer { result ≡ option_map (λ f. f.entry.mark) (found b (T.Tier.model self.old.tier).rows) }
         ensures buffer { buffer.new ≡ contents (found b (T.Tier.model self.old.tier).rows) buffer.old }
-        ensures after { pile (T.Tier.model self.new.tier) self.new.tallies ≡ counted (found b (T.Tier.model self.old.tier).rows) (record { store = (T.Tier.model self.old.tier).store; rows = lifted b (T.Tier.model self.old.tier).rows }) (pile (T.Tier.model self.old.tier) self.old.tallies) }
+        ensures after { pile T.Tier.model self.new ≡ counted (found b (T.Tier.model self.old.tier).rows) (record { store = (T.Tier.model self.old.tier).store; rows = lifted b (T.Tier.model self.old.tier).rows }) (pile T.Tier.model self.old) }
         ensures loans { T.Tier.loans self.new.tier ≡ T.Tier.loans self.old.tier }
     {
-        match self.tier.lift(b, buffer) {
-            Ok(Some(lifted)) => {
-                self.tallies.count(Some(lifted.level));
-                Some(lifted.mark)
-            }
-            _ => {
-                self.tallies.count(None);
-                None
-            }
-        }
+        let lifted = self.tier.lift(b, buffer).unwrap_or(None);
+        self.tallies.count(lifted.map(|lifted| lifted.level));
+        lifted.map(|lifted| lifted.mark)
     }
 
     // Demotes a block from the top.
@@ -116,23 +101,16 @@ impl<T: Tier> Pile<T> {
         ensures tallies { self.new.tallies ≡ self.old.tallies }
         ensures loans { T.Tier.loans self.new.tier ≡ T.Tier.loans self.old.tier }
     {
-        match self.tier.demote(Victim::new(b, mark), bytes) {
-            Ok(()) => Ok(()),
-            Err(DemoteFault::Length(victim)) => {
-                let _ = victim.open();
-                Err(PileFault::Device(DeviceFault::Length))
-            }
-            Err(DemoteFault::Dropped(dropped)) => Err(PileFault::Dropped(dropped)),
-        }
+        Ok(self.tier.demote(Victim::new(b, mark), bytes)?)
     }
 
     // Takes block `b` from the level that has it, or else from the stored blocks, its bytes into the buffer.
     fn fetch(&mut self, b: u32, buffer: &mut [u8]) -> Result<Mark, PileFault>
         requires there { answer (T.Tier.model self.old.tier).store b (length buffer.old) ≡ Ok tt }
-        requires few { touches (pile (T.Tier.model self.old.tier) self.old.tallies) < 4000000000 }
+        requires few { touches (pile T.Tier.model self.old) < 4000000000 }
         ensures answer { result ≡ Ok (fetched (found b (T.Tier.model self.old.tier).rows) b ((T.Tier.model self.old.tier).store.at b)).mark }
         ensures buffer { buffer.new ≡ (fetched (found b (T.Tier.model self.old.tier).rows) b ((T.Tier.model self.old.tier).store.at b)).bytes }
-        ensures after { pile (T.Tier.model self.new.tier) self.new.tallies ≡ counted (found b (T.Tier.model self.old.tier).rows) (record { store = (T.Tier.model self.old.tier).store; rows = lifted b (T.Tier.model self.old.tier).rows }) (pile (T.Tier.model self.old.tier) self.old.tallies) }
+        ensures after { pile T.Tier.model self.new ≡ counted (found b (T.Tier.model self.old.tier).rows) (record { store = (T.Tier.model self.old.tier).store; rows = lifted b (T.Tier.model self.old.tier).rows }) (pile T.Tier.model self.old) }
         ensures loans { T.Tier.loans self.new.tier ≡ T.Tier.loans self.old.tier }
     {
         match self.lift(b, buffer) {
@@ -146,9 +124,9 @@ impl<T: Tier> Pile<T> {
 
     // Reads block `b` into the buffer. The block is then the latest of the top level.
     pub fn read(&mut self, b: u32, buffer: &mut [u8]) -> Result<(), PileFault>
-        ensures answer { result ≡ (answered (read b buffer.old) (pile (T.Tier.model self.old.tier) self.old.tallies)).result }
-        ensures buffer { buffer.new ≡ (answered (read b buffer.old) (pile (T.Tier.model self.old.tier) self.old.tallies)).buffer }
-        ensures after { pile (T.Tier.model self.new.tier) self.new.tallies ≡ stepped (read b buffer.old) (pile (T.Tier.model self.old.tier) self.old.tallies) }
+        ensures answer { result ≡ (answered (read b buffer.old) (pile T.Tier.model self.old)).result }
+        ensures buffer { buffer.new ≡ (answered (read b buffer.old) (pile T.Tier.model self.old)).buffer }
+        ensures after { pile T.Tier.model self.new ≡ stepped (read b buffer.old) (pile T.Tier.model self.old) }
         ensures loans { T.Tier.loans self.new.tier ≡ T.Tier.loans self.old.tier }
     {
         self.admit_touch(b, buffer.len())?;
@@ -158,8 +136,8 @@ impl<T: Tier> Pile<T> {
 
     // Writes block `b`. It is then the latest of the top level, and the device has it when it falls off the last level or is synced.
     pub fn write(&mut self, b: u32, bytes: &[u8]) -> Result<(), PileFault>
-        ensures answer { result ≡ (answered (write b bytes.now) (pile (T.Tier.model self.old.tier) self.old.tallies)).result }
-        ensures after { pile (T.Tier.model self.new.tier) self.new.tallies ≡ stepped (write b bytes.now) (pile (T.Tier.model self.old.tier) self.old.tallies) }
+        ensures answer { result ≡ (answered (write b bytes.now) (pile T.Tier.model self.old)).result }
+        ensures after { pile T.Tier.model self.new ≡ stepped (write b bytes.now) (pile T.Tier.model self.old) }
         ensures loans { T.Tier.loans self.new.tier ≡ T.Tier.loans self.old.tier }
     {
         self.admit_touch(b, bytes.len())?;
@@ -170,14 +148,11 @@ impl<T: Tier> Pile<T> {
 
     // Saves every block that the device does not have yet. It counts for no level and moves no entry.
     pub fn sync(&mut self) -> Result<(), PileFault>
-        ensures answer { result ≡ (answered sync (pile (T.Tier.model self.old.tier) self.old.tallies)).result }
-        ensures after { pile (T.Tier.model self.new.tier) self.new.tallies ≡ stepped sync (pile (T.Tier.model self.old.tier) self.old.tallies) }
+        ensures answer { result ≡ (answered sync (pile T.Tier.model self.old)).result }
+        ensures after { pile T.Tier.model self.new ≡ stepped sync (pile T.Tier.model self.old) }
         ensures loans { T.Tier.loans self.new.tier ≡ T.Tier.loans self.old.tier }
     {
-        match self.tier.sync() {
-            Ok(()) => Ok(()),
-            Err(dropped) => Err(PileFault::Dropped(dropped)),
-        }
+        Ok(self.tier.sync()?)
     }
 
     // The tallies since mounting.

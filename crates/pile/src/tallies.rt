@@ -7,7 +7,7 @@ pub const LEVELS: usize = 8;
 // The touches that each level served, top first, and those that none did.
 #[derive(Clone, Copy)]
 pub struct Tallies {
-    hits: [u32; 8],
+    hits: [u32; LEVELS],
     levels: usize,
     floor: u32,
     ghost wide: { length hits ≡ 8 },

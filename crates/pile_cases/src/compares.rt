@@ -1,21 +1,12 @@
 // Comparisons of layouts.
 use crate::mounts::{four_over, take_in};
-use crate::plays::{Call, level_of, numbered, play};
-use certificate::{CompareFault, Comparison, Verdict, compare};
+use crate::plays::{Call, numbered, one, play, two};
+use certificate::{CompareFault, Comparison, Layout, Verdict, compare};
 use device::{Device, Image};
 use layers::DefectList;
+use refusal::{Refusal, told};
 use std::alloc::{AllocError, Global};
-use tier::{Floor, Level, Tier};
-
-// Two levels over a device.
-fn two<D>(upper: u32, lower: u32, device: D) -> Level<Level<Floor<D>>> {
-    level_of(upper, level_of(lower, Floor::new(device)))
-}
-
-// One level over a device.
-fn one<D>(capacity: u32, device: D) -> Level<Floor<D>> {
-    level_of(capacity, Floor::new(device))
-}
+use tier::Tier;
 
 fn print_verdict(rt: &HostRuntime, verdict: Verdict) -> anyhow::Result<()> {
     match verdict {
@@ -33,36 +24,32 @@ fn print_verdict(rt: &HostRuntime, verdict: Verdict) -> anyhow::Result<()> {
 
 fn print_fault(rt: &HostRuntime, fault: CompareFault) -> anyhow::Result<()> {
     match fault {
-        CompareFault::First(fault) => {
-            let number = fault.number();
-            println!(rt; "refused: the first by {number}")?
-        }
-        CompareFault::Second(fault) => {
-            let number = fault.number();
-            println!(rt; "refused: the second by {number}")?
-        }
+        CompareFault::First(fault) => println!(rt; "refused: the first by {}", fault.number())?,
+        CompareFault::Second(fault) => println!(rt; "refused: the second by {}", fault.number())?,
         CompareFault::Devices => println!(rt; "refused: the devices differ")?,
         CompareFault::Memory => println!(rt; "refused: no memory")?,
     }
     Ok(())
 }
 
-// Compares the first levels of two tiers and prints the answer.
+// So many of the first levels of a tier.
+fn first_of<T>(levels: u32, tier: &T) -> Layout<'_, T> {
+    Layout { tier, levels }
+}
+
+// Compares two layouts and prints the answer.
 fn print_compared<F: Tier, S: Tier>(
     rt: &HostRuntime,
-    first: &F,
-    j: u32,
-    second: &S,
-    k: u32,
+    first: Layout<'_, F>,
+    second: Layout<'_, S>,
 ) -> anyhow::Result<()> {
-    match compare(rt.alloc(), first, j, second, k) {
-        Ok(comparison) => {
-            let Comparison {
-                first,
-                second,
-                sound,
-                verdict,
-            } = comparison;
+    match compare(rt.alloc(), first, second) {
+        Ok(Comparison {
+            first,
+            second,
+            sound,
+            verdict,
+        }) => {
             print!(rt; "sums {first} and {second} of {sound} sound blocks")?;
             print_verdict(rt, verdict)
         }
@@ -76,11 +63,13 @@ fn telling_reads(
     answer: Result<Comparison, CompareFault>,
 ) -> Result<Vec<Call>, AllocError> {
     let mut calls = Vec::new(heap);
-    if let Ok(comparison) = answer {
-        if let Verdict::Differ(reads) = &comparison.verdict {
-            for b in reads {
-                calls.push(Call::Read(*b))?;
-            }
+    if let Ok(Comparison {
+        verdict: Verdict::Differ(reads),
+        ..
+    }) = &answer
+    {
+        for b in reads {
+            calls.push(Call::Read(*b))?;
         }
     }
     Ok(calls)
@@ -92,7 +81,7 @@ fn play_both<F: Tier + Drop, S: Tier + Drop>(
     first: F,
     second: S,
 ) -> anyhow::Result<()> {
-    let answer = compare(rt.alloc(), &first, 8, &second, 8);
+    let answer = compare(rt.alloc(), first_of(8, &first), first_of(8, &second));
     let calls = telling_reads(rt.alloc(), answer)?;
     play(rt, first, &calls)?;
     play(rt, second, &calls)
@@ -107,7 +96,7 @@ fn against<F: Device + Drop, S: Device + Drop>(
 ) -> anyhow::Result<()> {
     let first = two(2, 3, first);
     let second = one(capacity, second);
-    print_compared(rt, &first, 2, &second, 1)
+    print_compared(rt, first_of(2, &first), first_of(1, &second))
 }
 
 // The same, with the reads that tell them apart.
@@ -139,7 +128,7 @@ fn by_levels<F: Device + Drop, S: Device + Drop>(
     let second = two(5, 1, second);
     for (j, k) in [(2u32, 1u32), (1, 2), (0, 0), (0, 1), (4294967295, 2)] {
         print!(rt; "levels {j} and {k}, ")?;
-        print_compared(rt, &first, j, &second, k)?;
+        print_compared(rt, first_of(j, &first), first_of(k, &second))?;
     }
     Ok(())
 }
@@ -188,7 +177,7 @@ fn compare_above<F: Tier + Drop, S: Tier>(
     second: &S,
 ) -> anyhow::Result<()> {
     let first = four_over(below);
-    print_compared(rt, &first, 1, second, 1)
+    print_compared(rt, first_of(1, &first), first_of(1, second))
 }
 
 // Devices of other sizes, and tiers that cannot be mounted: the tiers are checked first.
@@ -199,11 +188,10 @@ fn other_sizes<F: Device + Drop, S: Device + Drop>(
 ) -> anyhow::Result<()> {
     let mut first = one(5, first);
     let second = one(5, second);
-    print_compared(rt, &first, 1, &second, 1)?;
-    let taken = take_in(&mut first);
-    println!(rt; "block 3 demoted: {taken}")?;
-    print_compared(rt, &first, 1, &second, 1)?;
-    print_compared(rt, &second, 1, &first, 1)?;
+    print_compared(rt, first_of(1, &first), first_of(1, &second))?;
+    println!(rt; "block 3 demoted: {}", told(take_in(&mut first)))?;
+    print_compared(rt, first_of(1, &first), first_of(1, &second))?;
+    print_compared(rt, first_of(1, &second), first_of(1, &first))?;
     compare_above(rt, four_over(second), &first)
 }
 

@@ -1,23 +1,21 @@
 // Which tiers are mounted, and that a refused one is given back.
-use crate::plays::print_rows;
 use device::{Device, Image, Source};
-use pile::{Pile, Refused};
+use pile::{MountFault, Pile, PileFault, Refused};
+use refusal::told;
 use row::Mark;
-use tier::{DemoteFault, Floor, Level, Tier, Victim};
+use showing::print_rows;
+use tier::{Floor, Level, Tier, Victim};
 
 // A tier under four levels of capacity 1.
 pub fn four_over<T>(below: T) -> Level<Level<Level<Level<T>>>> {
     Level::new(Level::new(Level::new(Level::new(below))))
 }
 
-// The number by which a mount is refused, or 0, and the tier back from it.
-fn mount_answer<T: Tier>(tier: T) -> (u8, T) {
+// What a mount answers, and the tier back from it.
+fn mount_answer<T: Tier>(tier: T) -> (Result<(), MountFault>, T) {
     match Pile::mount(tier) {
-        Ok(pile) => (0, pile.unmount()),
-        Err(refused) => {
-            let Refused { fault, tier } = refused;
-            (fault.number(), tier)
-        }
+        Ok(pile) => (Ok(()), pile.unmount()),
+        Err(Refused { tier, fault }) => (Err(fault), tier),
     }
 }
 
@@ -25,20 +23,13 @@ fn mount_answer<T: Tier>(tier: T) -> (u8, T) {
 fn mount<T: Tier + Drop>(rt: &HostRuntime, tier: T) -> anyhow::Result<T> {
     let (answer, back) = mount_answer(tier);
     let (levels, blocks) = (back.levels(), back.blocks());
-    println!(rt; "mount of {levels} levels over {blocks} blocks: {answer}")?;
+    println!(rt; "mount of {levels} levels over {blocks} blocks: {}", told(answer))?;
     Ok(back)
 }
 
-// Takes block 3 into the top level; 0 if it was taken.
-pub fn take_in<T: Tier>(tier: &mut T) -> u8 {
-    match tier.demote(Victim::new(3, Mark::Saved), &[7u8; 256]) {
-        Ok(()) => 0,
-        Err(DemoteFault::Length(victim)) => {
-            let _ = victim.open();
-            1
-        }
-        Err(DemoteFault::Dropped(dropped)) => dropped.number(),
-    }
+// Takes block 3 into the top level.
+pub fn take_in<T: Tier>(tier: &mut T) -> Result<(), PileFault> {
+    Ok(tier.demote(Victim::new(3, Mark::Saved), &[7u8; 256])?)
 }
 
 // Mounts a tier with block 3 in it, and again without it.
@@ -47,8 +38,7 @@ fn mount_twice<T: Tier + Drop>(rt: &HostRuntime, tier: T) -> anyhow::Result<()> 
     print_rows(rt, &back)?;
     let mut buffer = [0u8; 256];
     let lifted = back.lift(3, &mut buffer).is_ok();
-    let byte = buffer[0];
-    println!(rt; "block 3 lifted: {lifted}, byte {byte}")?;
+    println!(rt; "block 3 lifted: {lifted}, byte {}", buffer[0])?;
     let again = mount(rt, back)?;
     drop(again);
     Ok(())
@@ -69,8 +59,7 @@ fn levels_over<D: Device + Drop>(rt: &HostRuntime, device: D) -> anyhow::Result<
 // An entry in the lower of two levels.
 fn entry_in_two<D: Device + Drop>(rt: &HostRuntime, device: D) -> anyhow::Result<()> {
     let mut last = Level::new(Floor::new(device));
-    let taken = take_in(&mut last);
-    println!(rt; "block 3 demoted: {taken}")?;
+    println!(rt; "block 3 demoted: {}", told(take_in(&mut last)))?;
     mount_twice(rt, Level::new(last))
 }
 
@@ -82,8 +71,7 @@ fn mount_above<T: Tier + Drop>(rt: &HostRuntime, tier: T) -> anyhow::Result<()> 
 // An entry in the last of nine levels.
 fn entry_in_nine<D: Device + Drop>(rt: &HostRuntime, device: D) -> anyhow::Result<()> {
     let mut last = Level::new(Floor::new(device));
-    let taken = take_in(&mut last);
-    println!(rt; "block 3 demoted: {taken}")?;
+    println!(rt; "block 3 demoted: {}", told(take_in(&mut last)))?;
     mount_above(rt, four_over(last))
 }
 

@@ -1,7 +1,9 @@
 // Calls on a pile, a line for each, and what the tier holds once it is unmounted.
-use pile::{Pile, PileFault, Refused};
+use pile::{Pile, Refused};
+use refusal::{Refusal, told};
+use showing::print_rows;
 use std::alloc::{AllocError, Global};
-use tier::{Level, Tier};
+use tier::{Floor, Level, Tier};
 
 // A call to make.
 #[derive(Clone, Copy)]
@@ -10,14 +12,6 @@ pub enum Call {
     // A block of copies of one byte.
     Write(u32, u8),
     Sync,
-}
-
-// The number of a refusal, or 0.
-pub fn told(answer: Result<(), PileFault>) -> u8 {
-    match answer {
-        Ok(()) => 0,
-        Err(fault) => fault.number(),
-    }
 }
 
 // The bytes of so many blocks: block b is copies of 10 + b.
@@ -29,50 +23,32 @@ pub fn numbered(heap: Global, blocks: u8) -> Result<Vec<u8>, AllocError> {
     Ok(bytes)
 }
 
-// The first byte of a block.
-pub fn first_byte(bytes: &[u8], block: usize) -> u8 {
-    bytes.get(block.saturating_mul(256)).copied().unwrap_or(0)
-}
-
-// A level of a capacity over a tier.
+// A level of a capacity over a tier. `replaying` has one for capacities that are known to be from 1 to 16, which a caller
+// here would have to prove of every constant that it passes on.
 pub fn level_of<T>(capacity: u32, below: T) -> Level<T> {
     let mut level = Level::new(below);
     let _ = level.set_capacity(capacity);
     level
 }
 
+// One level over a device.
+pub fn one<D>(capacity: u32, device: D) -> Level<Floor<D>> {
+    level_of(capacity, Floor::new(device))
+}
+
+// Two levels over a device.
+pub fn two<D>(upper: u32, lower: u32, device: D) -> Level<Level<Floor<D>>> {
+    level_of(upper, one(lower, device))
+}
+
 // Prints the tallies, top level first, and ends the line.
 pub fn print_tallies<T: Tier>(rt: &HostRuntime, pile: &Pile<T>) -> anyhow::Result<()> {
     let tallies = pile.tallies();
     print!(rt; "hits")?;
-    for level in 1..9usize {
-        if let Some(hits) = tallies.hits(level) {
-            print!(rt; " {hits}")?;
-        }
+    for hits in tallies.by_level() {
+        print!(rt; " {hits}")?;
     }
-    let floor = tallies.floor();
-    println!(rt; ", floor {floor}")?;
-    Ok(())
-}
-
-// Prints the rows of a tier, a line for each level.
-pub fn print_rows<T: Tier>(rt: &HostRuntime, tier: &T) -> anyhow::Result<()> {
-    for level in 1..u32::from(tier.levels()) + 1 {
-        let capacity = tier.capacity(level).unwrap_or(0);
-        print!(rt; "level {level} of {capacity}:")?;
-        for place in 1..17u32 {
-            if let Some(tag) = tier.entry(level, place) {
-                let number = tag.number;
-                let mark = if tag.mark.is_saved() {
-                    "saved"
-                } else {
-                    "unsaved"
-                };
-                print!(rt; " {number} {mark}")?;
-            }
-        }
-        println!(rt; "")?;
-    }
+    println!(rt; ", floor {}", tallies.floor())?;
     Ok(())
 }
 
@@ -82,17 +58,12 @@ fn make_call<T: Tier>(rt: &HostRuntime, pile: &mut Pile<T>, call: Call) -> anyho
         Call::Read(b) => {
             let mut buffer = [0u8; 256];
             let answer = told(pile.read(b, &mut buffer));
-            let byte = buffer[0];
-            print!(rt; "read {b}: {answer}, byte {byte}; ")?;
+            print!(rt; "read {b}: {answer}, byte {}; ", buffer[0])?;
         }
         Call::Write(b, fill) => {
-            let answer = told(pile.write(b, &[fill; 256]));
-            print!(rt; "write {b}: {answer}; ")?;
+            print!(rt; "write {b}: {}; ", told(pile.write(b, &[fill; 256])))?;
         }
-        Call::Sync => {
-            let answer = told(pile.sync());
-            print!(rt; "sync: {answer}; ")?;
-        }
+        Call::Sync => print!(rt; "sync: {}; ", told(pile.sync()))?,
     }
     print_tallies(rt, pile)
 }
@@ -108,8 +79,7 @@ fn make_calls<T: Tier>(rt: &HostRuntime, pile: &mut Pile<T>, calls: &[Call]) -> 
 pub fn print_refused<T: Drop>(rt: &HostRuntime, refused: Refused<T>) -> anyhow::Result<()> {
     let Refused { fault, tier } = refused;
     drop(tier);
-    let number = fault.number();
-    println!(rt; "not mounted: {number}")?;
+    println!(rt; "not mounted: {}", fault.number())?;
     Ok(())
 }
 

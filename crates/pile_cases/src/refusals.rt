@@ -1,9 +1,10 @@
 // Refusals of reads and writes, in their order: the buffer, the number, the defect.
-use crate::plays::{level_of, numbered, print_refused, print_tallies, told};
+use crate::plays::{numbered, one, print_refused, print_tallies};
 use device::{Device, Image, Source};
 use layers::DefectList;
 use pile::Pile;
-use tier::{Floor, Tier};
+use refusal::told;
+use tier::Tier;
 
 // Reads a block into so many bytes of 5 and prints what they begin with after it, and writes as many bytes of 5.
 fn read_and_write<T: Tier>(
@@ -51,7 +52,6 @@ fn over<T: Tier + Drop>(rt: &HostRuntime, tier: T) -> anyhow::Result<()> {
 pub fn in_order(rt: &HostRuntime) -> anyhow::Result<()> {
     let mut bytes = numbered(rt.alloc(), 8)?;
     let mut list = DefectList::new(rt.alloc(), Image::new(&mut bytes));
-    let listed = list.list(2).is_ok();
-    println!(rt; "defect 2 listed: {listed}")?;
-    over(rt, level_of(2, Floor::new(list)))
+    println!(rt; "defect 2 listed: {}", list.list(2).is_ok())?;
+    over(rt, one(2, list))
 }

@@ -1,7 +1,7 @@
 // The same touches over layouts of equal sums.
-use crate::plays::{Call, level_of, numbered, play};
+use crate::plays::{Call, numbered, one, play, two};
 use device::{Device, Image};
-use tier::{Floor, Tier};
+use tier::Tier;
 
 fn touches<T: Tier + Drop>(rt: &HostRuntime, tier: T) -> anyhow::Result<()> {
     let calls = [
@@ -25,11 +25,11 @@ fn over_two<D: Device + Drop>(
     lower: u32,
     device: D,
 ) -> anyhow::Result<()> {
-    touches(rt, level_of(upper, level_of(lower, Floor::new(device))))
+    touches(rt, two(upper, lower, device))
 }
 
 fn over_one<D: Device + Drop>(rt: &HostRuntime, capacity: u32, device: D) -> anyhow::Result<()> {
-    touches(rt, level_of(capacity, Floor::new(device)))
+    touches(rt, one(capacity, device))
 }
 
 pub fn layouts(rt: &HostRuntime) -> anyhow::Result<()> {

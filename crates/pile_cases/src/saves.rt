@@ -1,11 +1,11 @@
 // Which touches count where, and when the device has what was written.
-use crate::plays::{Call, first_byte, level_of, numbered, play};
+use crate::plays::{Call, numbered, one, play, two};
 use device::{Device, Image};
+use showing::first_byte;
 use tier::Floor;
 
 // Writes of a block that the first level, the second or none has.
 fn counted<D: Device + Drop>(rt: &HostRuntime, device: D) -> anyhow::Result<()> {
-    let lower = level_of(1, Floor::new(device));
     let calls = [
         Call::Write(4, 44),
         Call::Write(4, 45),
@@ -13,23 +13,21 @@ fn counted<D: Device + Drop>(rt: &HostRuntime, device: D) -> anyhow::Result<()> 
         Call::Write(4, 46),
         Call::Sync,
     ];
-    play(rt, level_of(1, lower), &calls)
+    play(rt, two(1, 1, device), &calls)
 }
 
 pub fn counts(rt: &HostRuntime) -> anyhow::Result<()> {
     let mut bytes = numbered(rt.alloc(), 8)?;
     counted(rt, Image::new(&mut bytes))?;
-    let stored = first_byte(&bytes, 4);
-    println!(rt; "stored: block 4 begins with {stored}")?;
+    println!(rt; "stored: block 4 begins with {}", first_byte(&bytes, 4))?;
     Ok(())
 }
 
 // Makes calls over one level of 2 and prints what the device has of block 3.
 fn stored_after(rt: &HostRuntime, calls: &[Call]) -> anyhow::Result<()> {
     let mut bytes = numbered(rt.alloc(), 8)?;
-    play(rt, level_of(2, Floor::new(Image::new(&mut bytes))), calls)?;
-    let stored = first_byte(&bytes, 3);
-    println!(rt; "stored: block 3 begins with {stored}")?;
+    play(rt, one(2, Image::new(&mut bytes)), calls)?;
+    println!(rt; "stored: block 3 begins with {}", first_byte(&bytes, 3))?;
     Ok(())
 }
 
@@ -50,7 +48,6 @@ pub fn no_levels(rt: &HostRuntime) -> anyhow::Result<()> {
         Call::Read(8),
     ];
     play(rt, Floor::new(Image::new(&mut bytes)), &calls)?;
-    let stored = first_byte(&bytes, 1);
-    println!(rt; "stored: block 1 begins with {stored}")?;
+    println!(rt; "stored: block 1 begins with {}", first_byte(&bytes, 1))?;
     Ok(())
 }

@@ -3,7 +3,7 @@ use Rattle.std.proofs.Common.{◌≡◌, ℕ, zero, suc, ◌+◌, ◌<◌, ◌�
 use Rattle.std.specs.List.{AllByRecursion as All}
 use Rattle.std.proofs.lemmas.Bool.{cases_Bool, and_parts, and_from, or_parts, eqb-true, eqb-false, eq-eqb, ltb-true, lt-ltb, le-ltb, true≢false}
 use Rattle.rings.specs.Slots.{member, distinct, first, end, last, after}
-use Rattle.rings.specs.Links.{walk, ring_of, linked, chained, closed, Closed, Paired}
+use Rattle.rings.specs.Links.{walk, ring_of, linked, chained, closed}
 use Rattle.rings.proofs.Lists.{length_distinct}
 
 abbrev pub Link : List ℕ → List ℕ → ℕ → ℕ → Type 0
@@ -36,7 +36,7 @@ pub chain_slots : (n p : List ℕ) (c : ℕ) (xs : List ℕ) (e : ℕ) → Chain
 chain_slots n p c [] e h = tt
 chain_slots n p c (x ∷ xs) e h = (h.0, chain_slots n p x xs e h.2)
 
-walk_end : (fuel : ℕ) (n : List ℕ) (i : ℕ) → 16 ≤ i → walk fuel n i ≡ []
+pub walk_end : (fuel : ℕ) (n : List ℕ) (i : ℕ) → 16 ≤ i → walk fuel n i ≡ []
 walk_end zero n i h = refl
 walk_end (suc k) n i h = rw (le-ltb i 16 h)
 
@@ -49,7 +49,7 @@ walk_chain zero n p c (x ∷ xs) e h big few = absurd (omega arith)
 walk_chain (suc k) n p c (x ∷ xs) e h big few =
     ap (λ i. walk (suc k) n i) h.1.0 ∙ (walk_slot k n x h.0 ∙ ap (λ ys. x ∷ ys) (walk_chain k n p x xs e h.2 big (omega arith)))
 
-ring_is : (n : List ℕ) (r : ℕ) → ring_of n r ≡ walk 16 n (get_or n (16 + r) 0)
+pub ring_is : (n : List ℕ) (r : ℕ) → ring_of n r ≡ walk 16 n (get_or n (16 + r) 0)
 unfolding ring_of
 ring_is n r = refl
 
@@ -103,20 +103,3 @@ chain_last n p c [] e l big = let g : 16 ≤ get_or p e 0 = (let q = l.1 in omeg
 chain_last n p c (z ∷ zs) e l big =
     let q = chain_end n p z zs e l.2 in
     let g : get_or p e 0 < 16 = (let q2 = end_slot z zs l.0 (chain_slots n p z zs e l.2) in omega arith) in rw (lt-ltb (get_or p e 0) 16 g) (ap Some q)
-
--- links of every place to itself: rings that are all empty
-ring_self : (n : List ℕ) (r : ℕ) → get_or n (16 + r) 0 ≡ 16 + r → ring_of n r ≡ []
-ring_self n r e = ring_is n r ∙ (ap (λ i. walk 16 n i) e ∙ walk_end 16 n (16 + r) (omega arith))
-
-abbrev pub Itself : List ℕ → Type 0
-Itself n = (i : ℕ) → i < 32 → get_or n i 0 ≡ i
-
-module _ (n : List ℕ) (own : Itself n) where
-  pub self_paired : Paired n n
-  self_paired i h = let e = own i h in (omega arith, ap (λ j. get_or n j 0) e ∙ e)
-
-  pub self_ring : (r : ℕ) → r < 16 → ring_of n r ≡ []
-  self_ring r h = ring_self n r (own (16 + r) (omega arith))
-
-  pub self_closed : Closed n n
-  self_closed r h = closed_to n n r [] (own (16 + r) (omega arith), own (16 + r) (omega arith)) refl

@@ -4,6 +4,7 @@ use Rattle.std.proofs.lemmas.List.{get_or-set_same, get_or-set_other}
 use Rattle.std.proofs.lemmas.Bool.{cases_Bool, or_left, or_right, eqb-true, eqb-false, eq-eqb, ne_eqb, true≢false}
 use Rattle.rings.specs.declared.rings.Rings.{Rings}
 use Rattle.rings.specs.Slots.{member, without, distinct, first, after}
+use Rattle.rings.specs.Places.{nexts, prevs}
 use Rattle.rings.specs.Models.{ring, fronted}
 use Rattle.rings.specs.Buckets.{bucket, Filed, key_in, sought, from}
 use Rattle.std.specs.List.{AllByRecursion as All}
@@ -78,13 +79,13 @@ slot_low x (y ∷ ys) a m =
     ]
 
 pub ring_slots : (s : Rings) (r : ℕ) → r < 16 → All (λ y. y < 16) (ring s r)
-ring_slots s r h = chain_slots s.next s.prev (16 + r) (ring s r) (16 + r) (closed_chain s.next s.prev r (s.closed r h))
+ring_slots s r h = chain_slots (nexts s.links) (prevs s.links) (16 + r) (ring s r) (16 + r) (closed_chain (nexts s.links) (prevs s.links) r (s.closed r h))
 
 pub ring_low : (s : Rings) (x r : ℕ) → r < 16 → member x (ring s r) ≡ true → x < 16
 ring_low s x r h m = slot_low x (ring s r) (ring_slots s r h) m
 
 pub ring_distinct : (s : Rings) (r : ℕ) → r < 16 → distinct (ring s r) ≡ true
-ring_distinct s r h = closed_distinct s.next s.prev r (s.closed r h)
+ring_distinct s r h = closed_distinct (nexts s.links) (prevs s.links) r (s.closed r h)
 
 -- a search along a chain
 pub from_first : (xs : List ℕ) → from xs (first xs) ≡ xs

@@ -1,4 +1,6 @@
+pub mod Places
 pub mod Lists
 pub mod Chains
+pub mod Empty
 pub mod Updates
 pub mod Filing

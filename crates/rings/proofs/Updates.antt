@@ -1,10 +1,11 @@
 -- What the rings are after a slot is taken out of its ring, and after it is put in front of another.
 use Rattle.std.proofs.Common.{◌≡◌, ℕ, ◌+◌, ◌<◌, ◌≤◌, true, false, cond, eqb, List, [], ◌∷◌, length, get_or, set, Some, sym, refl, ap, ◌∙◌, inl, inr, arith}
 use Rattle.std.specs.List.{AllByRecursion as All}
-use Rattle.std.proofs.lemmas.List.{get_or-set_same, get_or-set_other, length-set}
+use Rattle.std.proofs.lemmas.List.{get_or-set_same, get_or-set_other, length-set, length-map}
 use Rattle.std.proofs.lemmas.Bool.{cases_Bool, cases_eq, or_parts, eqb-true, eqb-false, lt-ltb}
 use Rattle.rings.specs.declared.rings.Rings.{Rings}
 use Rattle.rings.specs.Slots.{member, without, distinct, first, after}
+use Rattle.rings.specs.Places.{next_of, prev_of, nexts, prevs}
 use Rattle.rings.specs.Links.{ring_of, slot_at, closed, Closed, Paired, out_links, in_links}
 use Rattle.rings.proofs.Lists.{distinct_head, distinct_tail, distinct_cons, distinct_without, without_none, after_first}
 use Rattle.rings.proofs.Chains.{Link, Chain, frame, all_apart, chain_slots, chain_next, ring_chain, closed_chain, closed_distinct, closed_to}
@@ -199,29 +200,29 @@ module _ (n p : List ℕ) (wn : length n ≡ 32) (wp : length p ≡ 32) (there :
     in_closed q h = closed_to n' p' q (cond (eqb q r) (x ∷ ring_of n q) (ring_of n q)) (now_chain q h) (now_distinct q h)
 
 -- a slot that is linked to itself is in no ring
-pub alone_free : (s : Rings) (x : ℕ) → x < 16 → get_or s.next x 0 ≡ x → (q : ℕ) → q < 16 → member x (ring_of s.next q) ≡ false
+pub alone_free : (s : Rings) (x : ℕ) → x < 16 → get_or (nexts s.links) x 0 ≡ x → (q : ℕ) → q < 16 → member x (ring_of (nexts s.links) q) ≡ false
 alone_free s x low alone q h =
-    elim (cases_Bool (member x (ring_of s.next q))) [
-      | inl m ↦ absurd (go (after x (ring_of s.next q)) refl (sym itself ∙ chain_next s.next s.prev (16 + q) (ring_of s.next q) (16 + q) x (closed_chain s.next s.prev q (s.closed q h)) m (omega arith)))
+    elim (cases_Bool (member x (ring_of (nexts s.links) q))) [
+      | inl m ↦ absurd (go (after x (ring_of (nexts s.links) q)) refl (sym itself ∙ chain_next (nexts s.links) (prevs s.links) (16 + q) (ring_of (nexts s.links) q) (16 + q) x (closed_chain (nexts s.links) (prevs s.links) q (s.closed q h)) m (omega arith)))
       | inr m ↦ m
     ]
   where
-    itself : slot_at (get_or s.next x 0) ≡ Some x
+    itself : slot_at (get_or (nexts s.links) x 0) ≡ Some x
     itself = rw (alone, lt-ltb x 16 low)
 
-    go : (ys : List ℕ) → after x (ring_of s.next q) ≡ ys → Some x ≡ first ys → ⊥
+    go : (ys : List ℕ) → after x (ring_of (nexts s.links) q) ≡ ys → Some x ≡ first ys → ⊥
     go [] e f = let z : ◌≡◌ {A = ℕ} 0 1 = cc in omega arith
     go (y ∷ ys) e f =
         let w : x ≡ y = cc in
-        let g : after x (ring_of s.next q) ≡ ys = ap (λ z. after z (ring_of s.next q)) w ∙ after_first x y (ring_of s.next q) ys (closed_distinct s.next s.prev q (s.closed q h)) e in
+        let g : after x (ring_of (nexts s.links) q) ≡ ys = ap (λ z. after z (ring_of (nexts s.links) q)) w ∙ after_first x y (ring_of (nexts s.links) q) ys (closed_distinct (nexts s.links) (prevs s.links) q (s.closed q h)) e in
         let l = ap length (sym e ∙ g) in omega arith
 
 -- what the links of rings are known to be
 abbrev pub Sound : List ℕ → List ℕ → Type 0
 Sound n p = record { wide : length n ≡ 32; wide_back : length p ≡ 32; paired : Paired n p; paired_back : Paired p n; closed : Closed n p }
 
-pub known : (s : Rings) → Sound s.next s.prev
-known s = record { wide = s.wide; wide_back = s.wide_back; paired = s.paired; paired_back = s.paired_back; closed = s.closed }
+pub known : (s : Rings) → Sound (nexts s.links) (prevs s.links)
+known s = record { wide = length-map s.links next_of ∙ s.wide; wide_back = length-map s.links prev_of ∙ s.wide; paired = s.paired; paired_back = s.paired_back; closed = s.closed }
 
 pub out_sound : (n p n' p' : List ℕ) (x : ℕ) → x < 16 → Sound n p → n' ≡ out_links n p x → p' ≡ out_links p n x → Sound n' p'
 out_sound n p n' p' x low k e f =

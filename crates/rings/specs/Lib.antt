@@ -1,4 +1,5 @@
 pub mod Slots
+pub mod Places
 pub mod Links
 pub mod Models
 pub mod Buckets

@@ -1,4 +1,4 @@
--- Rings of slots in two arrays of links: slots are the places 0 to 15, and ring r begins and ends at the place 16 + r.
+-- Rings of slots, by where each place leads on to and back to: slots are the places 0 to 15, and ring r begins and ends at the place 16 + r.
 use Rattle.std.specs.Prelude.{◌≡◌, ℕ, zero, suc, ◌+◌, ◌<◌, Bool, true, cond, ◌&&◌, List, [], ◌∷◌, Some, None, Option, ◌==◌, nat_lt, slice_index, slice_set}
 use Rattle.rings.specs.Slots.{distinct}
 

@@ -1,35 +1,41 @@
-// The links of a doubly linked list: who stands behind a place, and who before it.
+// The links of doubly linked lists: who stands behind a place, and who before it.
 ghost use Rattle.std.specs.Prelude.{◌≡◌, ◌<◌, length, slice_index};
 ghost use Rattle.rings.specs.Links.{out_links as outside, in_links as between};
+ghost use Rattle.rings.specs.Places.{nexts, prevs};
+
+// What stands behind a place, and what before it.
+#[derive(Clone, Copy)]
+pub struct Link {
+    pub next: usize,
+    pub prev: usize,
+}
 
 // Links the neighbours of `x` to one another, and `x` to itself.
-pub fn take_out(next: &mut [usize; 32], prev: &mut [usize; 32], x: usize)
-    requires { (x < 32) × ((slice_index next.old x < 32) × (slice_index prev.old x < 32)) }
-    ensures next { next.new ≡ outside next.old prev.old x }
-    ensures prev { prev.new ≡ outside prev.old next.old x }
+#[tactic(auto, using(crate::proofs::Places::written))]
+pub fn take_out(links: &mut [Link; 32], x: usize)
+    requires { (x < 32) × ((slice_index (nexts links.old) x < 32) × (slice_index (prevs links.old) x < 32)) }
+    ensures wide { length links.new ≡ 32 }
+    ensures next { nexts links.new ≡ outside (nexts links.old) (prevs links.old) x }
+    ensures prev { prevs links.new ≡ outside (prevs links.old) (nexts links.old) x }
 {
-    let before = prev[x];
-    let behind = next[x];
-    next[before] = behind;
-    prev[behind] = before;
-    next[x] = x;
-    prev[x] = x;
+    let Link { next, prev } = links[x];
+    links[prev].next = next;
+    links[next].prev = prev;
+    links[x] = Link { next: x, prev: x };
 }
 
 // Links `x` in between two places.
-pub fn put_in(
-    next: &mut [usize; 32],
-    prev: &mut [usize; 32],
-    x: usize,
-    before: usize,
-    behind: usize,
-)
+#[tactic(auto, using(crate::proofs::Places::written))]
+pub fn put_in(links: &mut [Link; 32], x: usize, before: usize, behind: usize)
     requires { (x < 32) × ((before < 32) × (behind < 32)) }
-    ensures next { next.new ≡ between next.old before x behind }
-    ensures prev { prev.new ≡ between prev.old behind x before }
+    ensures wide { length links.new ≡ 32 }
+    ensures next { nexts links.new ≡ between (nexts links.old) before x behind }
+    ensures prev { prevs links.new ≡ between (prevs links.old) behind x before }
 {
-    next[before] = x;
-    next[x] = behind;
-    prev[behind] = x;
-    prev[x] = before;
+    links[before].next = x;
+    links[behind].prev = x;
+    links[x] = Link {
+        next: behind,
+        prev: before,
+    };
 }

@@ -1,5 +1,5 @@
 -- A shelf stays in agreement with itself when a slot loses its number and when one gets a number.
-use Rattle.std.proofs.Common.{◌≡◌, ℕ, ◌+◌, ◌-◌, ◌^◌, ◌<◌, ◌≤◌, Bool, true, false, cond, not, eqb, ltb, List, [], ◌∷◌, length, is_some, Some, None, Option, sym, refl, ap, ◌∙◌, inl, inr, arith}
+use Rattle.std.proofs.Common.{◌≡◌, ℕ, ◌+◌, ◌-◌, ◌^◌, ◌<◌, ◌≤◌, Bool, true, false, cond, not, eqb, ltb, List, [], ◌∷◌, length, is_some, Some, None, Option, IsSome, sym, refl, ap, ◌∙◌, inl, inr, arith}
 use Rattle.std.proofs.lemmas.Bool.{cases_Bool, eqb-true, eqb-false, lt-ltb, le-ltb, ltb-true, ltb-false, both_ways}
 use Rattle.rings.specs.declared.index.Index.{Index}
 use Rattle.rings.specs.declared.rings.Rings.{Rings}
@@ -145,6 +145,6 @@ freed_more p p' x moved f y ly =
       | inr h ↦ let g = ltb-false y x h in h ∙ sym (le-ltb y (x + 1) (grind arith))
     ]
 
-pub none_from_first : (xs : List ℕ) → ◌≡◌ {A = Option ℕ} None (first xs) → xs ≡ []
-none_from_first [] e = refl
-none_from_first (x ∷ xs) e = let z : ◌≡◌ {A = ℕ} 0 1 = cc in absurd (omega arith)
+pub first_some : (xs : List ℕ) → (xs ≡ [] → ⊥) → IsSome (first xs)
+first_some [] ne = absurd (ne refl)
+first_some (x ∷ xs) ne = refl

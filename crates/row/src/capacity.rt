@@ -2,6 +2,8 @@
 ghost use Rattle.std.specs.Prelude.{◌≡◌, ◌≤◌, true, is_ok};
 ghost use Rattle.row.specs.Refusals.{capacity_answer as answered, capacity_number_of as numbered};
 
+use refusal::Refusal;
+
 // Why a capacity was not set.
 #[derive(Clone, Copy, PartialEq, Eq, Debug)]
 pub enum CapacityFault {
@@ -11,11 +13,10 @@ pub enum CapacityFault {
     InUse,
 }
 
-impl CapacityFault {
-    // The number by which the refusal is told.
-    pub fn number(self) -> u8
-        ensures { result ≡ numbered self }
-    {
+impl Refusal for CapacityFault {
+    ghost number_of = { numbered };
+
+    fn number(self) -> u8 {
         match self {
             CapacityFault::Outside | CapacityFault::InUse => 8,
         }
@@ -27,7 +28,7 @@ pub fn check(capacity: u32, len: u32) -> Result<(), CapacityFault>
     ensures answer { result ≡ answered capacity len }
     ensures taken { is_ok result ≡ true → (1 ≤ capacity) × (capacity ≤ 16) × (len ≡ 0) }
 {
-    if capacity < 1 || capacity > 16 {
+    if !(1..=16).contains(&capacity) {
         return Err(CapacityFault::Outside);
     }
     if len > 0 {

@@ -6,7 +6,10 @@ ghost use Rattle.tier.specs.Refusals.{lift_number_of, dropped_number_of, fault_r
 
 use crate::victim::Victim;
 use device::DeviceFault;
+use refusal::Refusal;
 use row::Mark;
+use std::error::Error;
+use std::fmt;
 
 // Why a lift was refused.
 #[derive(Clone, Copy, PartialEq, Eq, Debug)]
@@ -43,25 +46,41 @@ pub struct Dropped {
     pub level: u8,
 }
 
-impl LiftFault {
-    // The number by which the refusal is told.
-    pub fn number(self) -> u8
-        ensures { result ≡ lift_number_of self }
-    {
+impl Refusal for LiftFault {
+    ghost number_of = { lift_number_of };
+
+    fn number(self) -> u8 {
         match self {
             LiftFault::Length => 1,
         }
     }
 }
 
-impl Dropped {
-    // The number by which the refusal is told; the one inside it is the fault's own.
-    pub fn number(self) -> u8
-        ensures { result ≡ dropped_number_of self }
-    {
+impl Refusal for Dropped {
+    ghost number_of = { dropped_number_of };
+
+    // The number inside it is the fault's own.
+    fn number(self) -> u8 {
         5
     }
+}
 
+// The block and its refusal, by number.
+impl fmt::Display for Dropped {
+    fn fmt<W: fmt::Write>(&self, f: &mut fmt::Formatter<W>) -> fmt::Result {
+        write!(
+            f,
+            "block {}, inside {}, level {}",
+            self.block,
+            self.fault.number(),
+            self.level
+        )
+    }
+}
+
+impl Error for Dropped {}
+
+impl Dropped {
     // The same, seen from one level higher.
     pub fn raised(self) -> Dropped
         ensures { result ≡ told_drop (higher self) }
@@ -88,8 +107,8 @@ impl DemoteFault {
         ensures { result ≡ fault_raised self }
     {
         match self {
-            DemoteFault::Length(victim) => DemoteFault::Length(victim),
             DemoteFault::Dropped(dropped) => DemoteFault::Dropped(dropped.raised()),
+            length => length,
         }
     }
 }

@@ -82,14 +82,13 @@ impl<D: Device> Tier for Floor<D> {
         if mark.is_saved() {
             return Ok(());
         }
-        match self.device.write(block, bytes) {
-            Ok(()) => Ok(()),
-            Err(fault) => Err(DemoteFault::Dropped(Dropped {
+        self.device.write(block, bytes).map_err(|fault| {
+            DemoteFault::Dropped(Dropped {
                 block,
                 fault,
                 level: 0,
-            })),
-        }
+            })
+        })
     }
 
     fn sync(&mut self) -> Result<(), Dropped> {

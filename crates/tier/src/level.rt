@@ -56,22 +56,19 @@ impl<T> Level<T> {
 
 impl<T: Tier> Level<T> {
     // Ejects the last entry of a full row into the buffer: a block in hand, owed to the tier below.
-    fn eject(&mut self, buffer: &mut [u8]) -> Option<Victim>
-        requires { length buffer.old ≡ 256 }
+    fn eject(&mut self, buffer: &mut [u8; BLOCK]) -> Option<Victim>
         ensures answer { result ≡ option_map victim_of (leaving (kept self.old.row)) }
         ensures buffer { buffer.new ≡ contents (leaving (kept self.old.row)) buffer.old }
         ensures row { kept self.new.row ≡ left (kept self.old.row) }
         ensures below { self.new.below ≡ self.old.below }
     {
-        match self.row.eject(buffer) {
-            Some(tag) => Some(Victim::new(tag.number, tag.mark)),
-            None => None,
-        }
+        self.row
+            .eject(buffer)
+            .map(|tag| Victim::new(tag.number, tag.mark))
     }
 
     // Loses the row's entry of a number and ejects the last of what is left where the row is full: there is room then.
-    fn make_room(&mut self, number: u32, buffer: &mut [u8]) -> Option<Victim>
-        requires { length buffer.old ≡ 256 }
+    fn make_room(&mut self, number: u32, buffer: &mut [u8; BLOCK]) -> Option<Victim>
         ensures answer { result ≡ option_map victim_of (leaving (lost_in number (kept self.old.row))) }
         ensures buffer { buffer.new ≡ contents (leaving (lost_in number (kept self.old.row))) buffer.old }
         ensures row { kept self.new.row ≡ left (lost_in number (kept self.old.row)) }
@@ -84,10 +81,9 @@ impl<T: Tier> Level<T> {
     }
 
     // Takes an entry in front of the row, which has room for it and none of that number.
-    fn put_front(&mut self, number: u32, bytes: &[u8], mark: Mark)
+    fn put_front(&mut self, number: u32, bytes: &[u8; BLOCK], mark: Mark)
         requires room { length (kept self.old.row).entries < (kept self.old.row).capacity }
         requires fresh { sought number (kept self.old.row).entries ≡ None }
-        requires whole { length bytes.now ≡ 256 }
         ensures row { kept self.new.row ≡ holding (record { number = number; bytes = bytes.now; mark = mark } ∷ (kept self.old.row).entries) (kept self.old.row) }
         ensures below { self.new.below ≡ self.old.below }
     {
@@ -101,30 +97,24 @@ impl<T: Tier> Level<T> {
         ensures row { self.new.row ≡ self.old.row }
         ensures loans { T.Tier.loans self.new.below ≡ T.Tier.loans self.old.below }
     {
-        match self.below.demote(victim, bytes) {
-            Ok(()) => Ok(()),
-            Err(fault) => Err(fault.raised()),
-        }
+        self.below
+            .demote(victim, bytes)
+            .map_err(DemoteFault::raised)
     }
 
     // Takes a block in hand into the row, and hands down what has to leave it.
-    fn take_in(&mut self, victim: Victim, bytes: &[u8]) -> Result<(), DemoteFault>
-        requires { length bytes.now ≡ 256 }
+    fn take_in(&mut self, victim: Victim, bytes: &[u8; BLOCK]) -> Result<(), DemoteFault>
         ensures answer { result ≡ dropped_answer (demotion (level_model (kept self.old.row) (T.Tier.model self.old.below)) victim bytes.now).dropped }
         ensures after { level_model (kept self.new.row) (T.Tier.model self.new.below) ≡ model_of (demotion (level_model (kept self.old.row) (T.Tier.model self.old.below)) victim bytes.now) }
         ensures loans { T.Tier.loans self.new.below ≡ T.Tier.loans self.old.below }
     {
         let mut buffer = [0u8; BLOCK];
         let (number, mark) = victim.open();
-        match self.make_room(number, &mut buffer) {
-            Some(last) => {
-                self.put_front(number, bytes, mark);
-                self.hand_down(last, &buffer)
-            }
-            None => {
-                self.put_front(number, bytes, mark);
-                Ok(())
-            }
+        let ejected = self.make_room(number, &mut buffer);
+        self.put_front(number, bytes, mark);
+        match ejected {
+            Some(last) => self.hand_down(last, &buffer),
+            None => Ok(()),
         }
     }
 
@@ -136,11 +126,7 @@ impl<T: Tier> Level<T> {
         ensures row { self.new.row ≡ self.old.row }
         ensures loans { T.Tier.loans self.new.below ≡ T.Tier.loans self.old.below }
     {
-        match self.below.lift(b, buffer) {
-            Ok(Some(lifted)) => Ok(Some(lifted.deeper())),
-            Ok(None) => Ok(None),
-            Err(fault) => Err(fault),
-        }
+        Ok(self.below.lift(b, buffer)?.map(Lifted::deeper))
     }
 
     // Saves the entry in a slot unless it is saved.
@@ -159,17 +145,15 @@ impl<T: Tier> Level<T> {
         if tag.mark.is_saved() {
             return Ok(());
         }
-        match self.below.save(tag.number, self.row.bytes(slot)) {
-            Ok(()) => {
-                self.row.mark_saved(slot);
-                Ok(())
-            }
-            Err(fault) => Err(Dropped {
+        self.below
+            .save(tag.number, self.row.bytes(slot))
+            .map_err(|fault| Dropped {
                 block: tag.number,
                 fault,
                 level: 1,
-            }),
-        }
+            })?;
+        self.row.mark_saved(slot);
+        Ok(())
     }
 
     // Saves the row's unsaved entries, from its front on, up to the first save that is refused.
@@ -179,6 +163,7 @@ impl<T: Tier> Level<T> {
         ensures after { T.Tier.model self.new.below ≡ record { store = (swept (kept self.old.row).entries (T.Tier.model self.old.below).store).store; rows = (T.Tier.model self.old.below).rows } }
         ensures loans { T.Tier.loans self.new.below ≡ T.Tier.loans self.old.below }
     {
+        // No iterator: each step marks an entry of the row that is walked.
         let mut at = self.row.first_slot();
         while let Some(slot) = at {
             self.save_slot(slot)?;
@@ -241,17 +226,14 @@ impl<T: Tier> Tier for Level<T> {
     }
 
     fn demote(&mut self, victim: Victim, bytes: &[u8]) -> Result<(), DemoteFault> {
-        if bytes.len() != BLOCK {
-            return Err(DemoteFault::Length(victim));
+        match <&[u8; BLOCK]>::try_from(bytes) {
+            Ok(bytes) => self.take_in(victim, bytes),
+            Err(_) => Err(DemoteFault::Length(victim)),
         }
-        self.take_in(victim, bytes)
     }
 
     fn sync(&mut self) -> Result<(), Dropped> {
         self.sync_row()?;
-        match self.below.sync() {
-            Ok(()) => Ok(()),
-            Err(dropped) => Err(dropped.raised()),
-        }
+        self.below.sync().map_err(Dropped::raised)
     }
 }

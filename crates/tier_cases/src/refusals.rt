@@ -1,9 +1,18 @@
 // Refusals of the stored blocks, through two levels.
-use crate::levels::{demote, print_rows};
+use crate::levels::demote;
 use device::{Device, Image};
 use layers::DefectList;
+use refusal::Refusal;
 use row::Mark;
+use showing::{first_byte, print_rows};
 use tier::{Floor, Level, Tier};
+
+// Eight blocks, of which block 2 is listed as a defect.
+fn defect_two<'a>(rt: &HostRuntime, bytes: &'a mut [u8]) -> anyhow::Result<DefectList<Image<'a>>> {
+    let mut list = DefectList::new(rt.alloc(), Image::new(bytes));
+    println!(rt; "defect 2 listed: {}", list.list(2).is_ok())?;
+    Ok(list)
+}
 
 // The unsaved block 2 is pushed through two levels of capacity 1 onto a defect.
 fn push_through<D: Device + Drop>(rt: &HostRuntime, device: D) -> anyhow::Result<()> {
@@ -19,14 +28,9 @@ fn push_through<D: Device + Drop>(rt: &HostRuntime, device: D) -> anyhow::Result
 
 pub fn defect_below(rt: &HostRuntime) -> anyhow::Result<()> {
     let mut bytes = vec![in rt.alloc(); 0u8; 2048]?;
-    let mut list = DefectList::new(rt.alloc(), Image::new(&mut bytes));
-    let listed = list.list(2).is_ok();
-    println!(rt; "defect 2 listed: {listed}")?;
+    let list = defect_two(rt, &mut bytes)?;
     push_through(rt, list)?;
-    let (three, four) = (
-        bytes.get(768).copied().unwrap_or(0),
-        bytes.get(1024).copied().unwrap_or(0),
-    );
+    let (three, four) = (first_byte(&bytes, 3), first_byte(&bytes, 4));
     println!(rt; "stored: block 3 begins with {three}, block 4 with {four}")?;
     Ok(())
 }
@@ -41,24 +45,16 @@ fn sync_over<D: Device + Drop>(rt: &HostRuntime, device: D) -> anyhow::Result<()
     demote(rt, &mut tier, 4, Mark::Saved, 4)?;
     match tier.sync() {
         Ok(()) => println!(rt; "sync: done")?,
-        Err(dropped) => {
-            let (block, inner, level) = (dropped.block, dropped.fault.number(), dropped.level);
-            println!(rt; "sync: refused 5, block {block}, inside {inner}, level {level}")?
-        }
+        Err(dropped) => println!(rt; "sync: refused {}, {dropped}", dropped.number())?,
     }
     print_rows(rt, &tier)
 }
 
 pub fn stopped_sync(rt: &HostRuntime) -> anyhow::Result<()> {
     let mut bytes = vec![in rt.alloc(); 0u8; 2048]?;
-    let mut list = DefectList::new(rt.alloc(), Image::new(&mut bytes));
-    let listed = list.list(2).is_ok();
-    println!(rt; "defect 2 listed: {listed}")?;
+    let list = defect_two(rt, &mut bytes)?;
     sync_over(rt, list)?;
-    let (three, one) = (
-        bytes.get(768).copied().unwrap_or(0),
-        bytes.get(256).copied().unwrap_or(0),
-    );
+    let (three, one) = (first_byte(&bytes, 3), first_byte(&bytes, 1));
     println!(rt; "stored: block 3 begins with {three}, block 1 with {one}")?;
     Ok(())
 }

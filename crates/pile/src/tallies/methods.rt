@@ -1,5 +1,5 @@
 // What tallies do.
-ghost use Rattle.std.specs.Prelude.{◌≡◌, ◌<◌, ◌≤◌, length, replicate};
+ghost use Rattle.std.specs.Prelude.{◌≡◌, ◌<◌, ◌≤◌, length, replicate, slice_get};
 ghost use Rattle.tier.specs.Questions.{nth};
 ghost use Rattle.pile.specs.Piles.{add_at as raised};
 ghost use Rattle.pile.specs.Recency.{total};
@@ -20,14 +20,11 @@ fn sum(hits: &[u32]) -> u64
     all
 }
 
-// The hits at a place counted from 1.
-fn hits_at(hits: &[u32], level: usize) -> Option<u32>
-    ensures { result ≡ nth hits.now level }
+// The hits at a place counted from 0.
+fn hits_at(hits: &[u32], place: usize) -> Option<u32>
+    ensures { result ≡ slice_get hits.now place }
 {
-    if level < 1 || level > hits.len() {
-        return None;
-    }
-    Some(hits[level - 1])
+    hits.get(place).copied()
 }
 
 impl Tallies {
@@ -37,9 +34,8 @@ impl Tallies {
         ensures hits { served result ≡ replicate levels 0 }
         ensures floor { result.floor ≡ 0 }
     {
-        let hits = [0; LEVELS];
         Tallies {
-            hits,
+            hits: [0; LEVELS],
             levels,
             floor: 0,
         }
@@ -52,11 +48,18 @@ impl Tallies {
         self.levels
     }
 
+    // How many touches each level served, top first.
+    pub fn by_level(&self) -> &[u32]
+        ensures { result.now ≡ served self.now }
+    {
+        &self.hits[..self.levels]
+    }
+
     // How many touches a level served; levels count from 1.
     pub fn hits(&self, level: usize) -> Option<u32>
         ensures { result ≡ nth (served self.now) level }
     {
-        hits_at(&self.hits[..self.levels], level)
+        hits_at(self.by_level(), level.checked_sub(1)?)
     }
 
     // How many touches no level served.
@@ -70,7 +73,7 @@ impl Tallies {
     pub fn touches(&self) -> u64
         ensures { result ≡ summed self.now }
     {
-        sum(&self.hits[..self.levels]) + u64::from(self.floor)
+        sum(self.by_level()) + u64::from(self.floor)
     }
 
     // One more touch that a level served; levels count from 1.

@@ -1,10 +1,11 @@
 // What rings do.
-ghost use Rattle.std.specs.Prelude.{◌≡◌, ℕ, ◌+◌, ◌<◌, true, [], ◌∷◌, length, if◌then◌else◌, nat_eq, slice_index};
+ghost use Rattle.std.specs.Prelude.{◌≡◌, ℕ, ◌+◌, ◌<◌, true, [], ◌∷◌, length, if◌then◌else◌, nat_eq, slice_index, slice_index_or};
 ghost use Rattle.rings.specs.Models.{ring, fronted};
-ghost use Rattle.rings.specs.Links.{Closed, Paired, ring_of as rung, slot_at as slotted};
+ghost use Rattle.rings.specs.Links.{slot_at as slotted};
+ghost use Rattle.rings.specs.Places.{itself, nexts, prevs};
 ghost use Rattle.rings.specs.Slots.{member, without, first, last, after};
 
-use crate::links::{put_in, take_out};
+use crate::links::{Link, put_in, take_out};
 use crate::rings::Rings;
 
 // How many slots there are, and how many rings.
@@ -15,18 +16,16 @@ impl Rings {
     pub fn new() -> Rings
         ensures { (q : ℕ) → q < 16 → ring result q ≡ [] }
     {
-        let next = unlinked();
-        let prev = next;
-        Rings { next, prev }
+        Rings { links: unlinked() }
     }
 
     // Takes slot `x` out of the ring that it is in, if any.
     pub fn remove(&mut self, x: usize)
         requires { x < 16 }
         ensures rings { (q : ℕ) → q < 16 → ring self.new q ≡ without x (ring self.old q) }
-        ensures alone { (slice_index self.new.next x ≡ x) × (slice_index self.new.prev x ≡ x) }
+        ensures alone { (slice_index (nexts self.new.links) x ≡ x) × (slice_index (prevs self.new.links) x ≡ x) }
     {
-        take_out(&mut self.next, &mut self.prev, x);
+        take_out(&mut self.links, x);
     }
 
     // Puts slot `x`, wherever it was, in front of ring `r`.
@@ -40,11 +39,11 @@ impl Rings {
 
     // Puts slot `x`, which is in no ring, in front of ring `r`.
     fn put_front(&mut self, x: usize, r: usize)
-        requires { (x < 16) × ((r < 16) × ((slice_index self.old.next x ≡ x) × (slice_index self.old.prev x ≡ x))) }
+        requires { (x < 16) × ((r < 16) × ((slice_index (nexts self.old.links) x ≡ x) × (slice_index (prevs self.old.links) x ≡ x))) }
         ensures { (q : ℕ) → q < 16 → ring self.new q ≡ (if nat_eq q r then x ∷ ring self.old q else ring self.old q) }
     {
-        let behind = self.next[SLOTS + r];
-        put_in(&mut self.next, &mut self.prev, x, SLOTS + r, behind);
+        let behind = self.links[SLOTS + r].next;
+        put_in(&mut self.links, x, SLOTS + r, behind);
     }
 
     // The first slot of ring `r`.
@@ -52,7 +51,7 @@ impl Rings {
         requires { r < 16 }
         ensures { result ≡ first (ring self.now r) }
     {
-        slot(self.next[SLOTS + r])
+        slot(self.links[SLOTS + r].next)
     }
 
     // The last slot of ring `r`.
@@ -76,7 +75,7 @@ impl Rings {
         requires { place < 32 }
         ensures { (r : ℕ) → r < 16 → place ≡ 16 + r → slotted result ≡ last (ring self.now r) }
     {
-        self.prev[place]
+        self.links[place].prev
     }
 
     // The place behind a place: behind a slot of a ring, the next of that ring.
@@ -84,22 +83,16 @@ impl Rings {
         requires { place < 32 }
         ensures { (q : ℕ) → q < 16 → member place (ring self.now q) ≡ true → slotted result ≡ first (after place (ring self.now q)) }
     {
-        self.next[place]
+        self.links[place].next
     }
 }
 
 // Links of every place to itself: no slot is in a ring.
-fn unlinked() -> [usize; 32]
+fn unlinked() -> [Link; 32]
     ensures wide { length result ≡ 32 }
-    ensures paired { Paired result result }
-    ensures closed { Closed result result }
-    ensures rings { (q : ℕ) → q < 16 → rung result q ≡ [] }
+    ensures own { (i : ℕ) → i < 32 → slice_index_or result i (itself 0) ≡ itself i }
 {
-    let mut links = [0; 32];
-    for i in 0..32_usize {
-        links[i] = i;
-    }
-    links
+    std::array::from_fn(|i| Link { next: i, prev: i })
 }
 
 // The slot at a place, or none where a ring begins and ends.

@@ -7,7 +7,7 @@ ghost use Rattle.row.specs.Refusals.{capacity_answer as answered};
 ghost use Rattle.row.specs.Rows.{model, entries, Stands, held, above, below};
 
 use crate::capacity::{CapacityFault, check};
-use crate::frame::{Mark, Tag, copy_out, fill, frames, save};
+use crate::frame::{Frame, Mark, Tag};
 use crate::row::Row;
 use crate::shelf::Shelf;
 
@@ -16,10 +16,9 @@ impl Row {
     pub fn new() -> Row
         ensures { model result ≡ record { capacity = 1; entries = [] } }
     {
-        let frames = frames();
         Row {
             shelf: Shelf::new(),
-            frames,
+            frames: [Frame::new(); 16],
             capacity: 1,
         }
     }
@@ -42,7 +41,7 @@ impl Row {
         ensures after { model self.new ≡ holding (without (held self.old slot).number (entries self.old)) (model self.old) }
     {
         let tag = self.tag(slot);
-        copy_out(&self.frames, slot, buffer);
+        self.frames[slot].copy_out(buffer);
         self.drop_slot(slot);
         tag
     }
@@ -55,17 +54,16 @@ impl Row {
         self.shelf.release(slot);
     }
 
-    // Copies the entry that names a block into the buffer, and removes it.
+    // Copies the entry that names a block into the buffer, and removes it. The buffer is a slice: the tiers above are lent
+    // slices of any length, which they refuse while they run, and a lent slice that is turned into a lent array gets no proof.
     pub fn take(&mut self, number: u32, buffer: &mut [u8]) -> Option<Mark>
         requires { length buffer.old ≡ 256 }
         ensures answer { result ≡ option_map (λ e. e.mark) (sought number (entries self.old)) }
         ensures buffer { buffer.new ≡ contents (sought number (entries self.old)) buffer.old }
         ensures after { model self.new ≡ holding (without number (entries self.old)) (model self.old) }
     {
-        match self.find(number) {
-            Some(slot) => Some(self.take_slot(slot, buffer).mark),
-            None => None,
-        }
+        let slot = self.find(number)?;
+        Some(self.take_slot(slot, buffer).mark)
     }
 
     // Removes the entry that names a block, if there is one.
@@ -87,10 +85,8 @@ impl Row {
         if self.len() != self.capacity {
             return None;
         }
-        match self.last_slot() {
-            Some(slot) => Some(self.take_slot(slot, buffer)),
-            None => None,
-        }
+        let slot = self.last_slot()?;
+        Some(self.take_slot(slot, buffer))
     }
 
     // The slot of the last entry.
@@ -108,7 +104,7 @@ impl Row {
         ensures { model self.new ≡ holding (record { number = number; bytes = bytes.now; mark = mark } ∷ entries self.old) (model self.old) }
     {
         let slot = self.shelf.admit(number);
-        fill(&mut self.frames, slot, bytes, mark);
+        self.frames[slot].fill(bytes, mark);
     }
 
     // Marks the entry in a slot saved.
@@ -120,6 +116,6 @@ impl Row {
         ensures above { above self.new slot ≡ above self.old slot }
         ensures below { below self.new slot ≡ below self.old slot }
     {
-        save(&mut self.frames, slot);
+        self.frames[slot].save();
     }
 }

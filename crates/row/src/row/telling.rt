@@ -4,7 +4,7 @@ ghost use Rattle.std.specs.Option.{option_map};
 ghost use Rattle.row.specs.Entries.{find_entry as sought, without, tag_of as told, at_place as placed};
 ghost use Rattle.row.specs.Rows.{model, entries, Stands, Standing, held, above, below, passed, coming};
 
-use crate::frame::{Tag, mark_of};
+use crate::frame::Tag;
 use crate::row::Row;
 
 impl Row {
@@ -36,7 +36,7 @@ impl Row {
     {
         Tag {
             number: self.shelf.number(slot),
-            mark: mark_of(&self.frames, slot),
+            mark: self.frames[slot].mark,
         }
     }
 

@@ -63,6 +63,7 @@ impl Shelf {
         self.front()
     }
 
+    // The same, of the order alone.
     fn front(&self) -> Option<usize>
         ensures { result ≡ first (order self.now) }
     {
@@ -88,6 +89,7 @@ impl Shelf {
         self.behind(x)
     }
 
+    // The same, of the order alone.
     fn behind(&self, x: usize) -> Option<usize>
         requires { (x < 16) × (member x (order self.now) ≡ true) }
         ensures { result ≡ first (after x (order self.now)) }
@@ -129,10 +131,7 @@ impl Shelf {
         requires { length (order self.now) < 16 }
         ensures { (result < 16) × (member result (order self.now) ≡ false) × (key self.now result ≡ None) }
     {
-        match self.places.first(FREE) {
-            Some(x) => x,
-            None => unreachable(),
-        }
+        self.places.first(FREE).unwrap()
     }
 }
 

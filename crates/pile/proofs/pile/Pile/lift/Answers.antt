@@ -1,23 +1,16 @@
-use Rattle.std.proofs.Common.{◌≡◌, ◌≤◌, length, Some, ◌∙◌, arith, length-take, rules}
+use Rattle.std.proofs.Common.{◌≡◌, ◌≤◌, length, ap, ◌∙◌, arith, length-take, rules}
 use Rattle.std.specs.Option.{option_map}
 use Rattle.tier.specs.Lifts.{found, label_of, lifted}
-use Rattle.pile.specs.Tallies.{pile_of, hits_of}
-use Rattle.pile.proofs.Lifting.{label_mark, label_counts}
+use Rattle.pile.specs.Tallies.{pile_of, hits_of, hits_with, floor_with}
+use Rattle.pile.proofs.Lifting.{counted_told}
 use Rattle.pile.proofs.pile.Pile.lift.Goals as goal
 
-pub returns-in-Ok-Some : goal.returns-in-Ok-Some
-returns-in-Ok-Some g c =
-    let rows = (g.T.Tier.model c.args.self.now.tier).rows in
-    let store = (g.T.Tier.model c.args.self.now.tier).store in
-    let l = c.in-Ok-Some.lifted in
-    let e = c.in-Ok-Some.ensures in
-    let q : option_map label_of (found c.args.b rows) ≡ Some l = search rules in
-    let left : g.T.Tier.model c.lift.new.self ≡ record { store = store; rows = lifted c.args.b rows } = search rules in
-    let few : length (hits_of c.args.self.now.tallies) ≤ 8 = omega (arith, length-take c.args.self.now.tallies.levels c.args.self.now.tallies.hits, c.args.self.now.tallies.few) in
-    record {
-      answer = label_mark (found c.args.b rows) l q;
-      buffer = search rules;
-      after = (λ i. record { tier = left i; hits = c.count.ensures.hits i; floor = c.count.ensures.floor i })
-          ∙ label_counts (found c.args.b rows) l record { store = store; rows = lifted c.args.b rows } (pile_of (g.T.Tier.model c.args.self.now.tier) c.args.self.now.tallies) q few;
-      loans = search rules;
-    }
+pub returns-clause-after : goal.returns-clause-after
+returns-clause-after g c =
+    let t = c.args.self.now.tallies in
+    let m = g.T.Tier.model c.args.self.now.tier in
+    let level : c.map.result ≡ option_map (λ l. l.level) (option_map label_of (found c.args.b m.rows)) = search rules in
+    let left : g.T.Tier.model c.lift.new.self ≡ record { store = m.store; rows = lifted c.args.b m.rows } = search rules in
+    let few : length (hits_of t) ≤ 8 = omega (arith, length-take t.levels t.hits, t.few) in
+    (λ i. record { tier = left i; hits = (c.count.ensures.hits ∙ ap (λ o. hits_with o (hits_of t)) level) i; floor = (c.count.ensures.floor ∙ ap (λ o. floor_with o t.floor) level) i })
+    ∙ counted_told (found c.args.b m.rows) record { store = m.store; rows = lifted c.args.b m.rows } (pile_of m t) few
