@@ -1,8 +1,8 @@
 -- Texts written into a buffer one after another.
-use Rattle.std.proofs.Common.{◌≡◌, ℕ, ◌+◌, ◌-◌, ◌/◌, ◌%◌, ◌^◌, ◌<◌, ◌≤◌, List, [], ◌∷◌, ◌++◌, length, take, drop, set, decimal, sym, refl, ap, ◌∙◌, subst, append_assoc, add-zero, add_assoc, add-one, arith, length-append, length-drop}
+use Rattle.std.proofs.Common.{◌≡◌, ℕ, ◌+◌, ◌-◌, ◌^◌, ◌<◌, ◌≤◌, List, [], ◌++◌, length, take, drop, sym, refl, ap, ◌∙◌, min, append_assoc, add-zero, add_assoc, arith, length-append, length-drop}
 use borrow.Rule.Slice.PartMut.{put_mid}
-use Rattle.std.proofs.lemmas.Fmt.{decimal_digit, decimal_step, length-decimal-le}
-use Rattle.std.proofs.lemmas.List.{length-take-le, take_at, drop_at, drop-drop, set_split, take-append-drop}
+use Rattle.std.proofs.lemmas.List.{length-take-le, take_at, drop_at, drop-drop, take-append-drop}
+use Rattle.formats.specs.declared.report.cursor.Cursor.{Cursor}
 use Rattle.formats.specs.Reports.{placed, Wrote}
 
 module _ (a b : List ℕ) (at : ℕ) (xs : List ℕ) (room : at + length (a ++ b) ≤ length xs) where
@@ -37,44 +37,30 @@ placed_none at xs = ap (λ n. take at xs ++ drop n xs) (add-zero at) ∙ take-ap
 pub length_placed : (a : List ℕ) (at : ℕ) (xs : List ℕ) → at + length a ≤ length xs → length (placed a at xs) ≡ length xs
 length_placed a at xs h = simp (length-append, length-drop) (omega (arith, length-take-le at xs (omega arith)))
 
-pub wrote_length : {a : List ℕ} {at : ℕ} {xs ys : List ℕ} {end : ℕ} → at + length a ≤ length xs → Wrote a at xs ys end → length ys ≡ length xs
-wrote_length {a = a} {at = at} {xs = xs} h w = ap length w.bytes ∙ length_placed a at xs h
-
 -- one text after another
-pub wrote_more : {a b : List ℕ} {at : ℕ} {xs ys zs : List ℕ} {mid end : ℕ} → at + length (a ++ b) ≤ length xs → Wrote a at xs ys mid → Wrote b mid ys zs end → Wrote (a ++ b) at xs zs end
-wrote_more {a = a} {b = b} {at = at} {xs = xs} {ys = ys} h v w =
-    record {
-      bytes = w.bytes ∙ (ap (λ n. placed b n ys) v.stops ∙ (ap (λ l. placed b (at + length a) l) v.bytes ∙ placed_append a b at xs h));
-      stops = omega (arith, length-append a b, v.stops, w.stops);
-    }
+pub wrote_next : {a b : List ℕ} {x y z : Cursor} → Wrote a x y → Wrote b y z → Wrote (a ++ b) x z
+wrote_next {a = a} {b = b} {x = x} {y = y} {z = z} v w = record { stops = behind; bytes = joined; same_reference = w.same_reference ∙ v.same_reference }
+  where
+    behind : x.at < 2 ^ 64 → z.at ≡ min (x.at + length (a ++ b)) (2 ^ 64 - 1)
+    behind h =
+        let s = v.stops h in
+        let m : y.at < 2 ^ 64 = omega (arith, s) in
+        omega (arith, length-append a b, s, w.stops m)
 
-pub wrote_byte : (xs : List ℕ) (at byte : ℕ) → at < length xs → Wrote (byte ∷ []) at xs (set xs at byte) (at + 1)
-wrote_byte xs at byte h = record { bytes = set_split xs at byte h ∙ ap (λ n. take at xs ++ (byte ∷ drop n xs)) (sym (add-one at)); stops = refl }
+    joined : x.at + length (a ++ b) ≤ length x.buffer.now → length x.buffer.now < 2 ^ 64 → z.buffer.now ≡ placed (a ++ b) x.at x.buffer.now
+    joined room small =
+        let e = length-append a b in
+        let r : x.at + length a ≤ length x.buffer.now = omega (arith, e) in
+        let h : x.at < 2 ^ 64 = omega arith in
+        let s : y.at ≡ x.at + length a = omega (arith, v.stops h) in
+        let p = v.bytes r small in
+        let l : length y.buffer.now ≡ length x.buffer.now = ap length p ∙ length_placed a x.at x.buffer.now r in
+        w.bytes (omega (arith, e, s, l)) (omega (arith, l)) ∙ (ap (λ n. placed b n y.buffer.now) s ∙ (ap (λ t. placed b (x.at + length a) t) p ∙ placed_append a b x.at x.buffer.now room))
 
-pub wrote_as : {a b : List ℕ} {at : ℕ} {xs ys : List ℕ} {end : ℕ} → a ≡ b → Wrote a at xs ys end → Wrote b at xs ys end
-wrote_as {at = at} {xs = xs} {ys = ys} {end = end} e w = let P : List ℕ → Type 0 = λ t. Wrote t at xs ys end in subst P e w
+pub wrote_none : (x : Cursor) → Wrote [] x x
+wrote_none x = record { stops = λ h. omega arith; bytes = λ r s. sym (placed_none x.at x.buffer.now); same_reference = refl }
 
-pub length_digit : (n : ℕ) → n < 10 → length (decimal n) ≡ 1
-length_digit n h = ap length (decimal_digit n h)
-
-pub length_digits : (n : ℕ) → 10 ≤ n → n < 2 ^ 64 → length (decimal n) ≡ length (decimal (n / 10)) + 1
-length_digits n h s = ap length (decimal_step n h s) ∙ length-append (decimal (n / 10)) ((48 + n % 10) ∷ [])
-
-pub length_few : (n : ℕ) → n < 2 ^ 64 → length (decimal n) ≤ 20
-length_few n s = length-decimal-le 20 n (omega arith) (omega arith) s
-
-pub wrote_text : (text : List ℕ) (at : ℕ) (xs zs : List ℕ) → zs ≡ text → Wrote text at xs (put_mid at ((at + length text) - at) xs zs) (at + length text)
-wrote_text text at xs zs e =
+pub text_placed : (text : List ℕ) (at : ℕ) (xs zs : List ℕ) → zs ≡ text → put_mid at ((at + length text) - at) xs zs ≡ placed text at xs
+text_placed text at xs zs e =
     let k : (at + length text) - at ≡ length text = omega arith in
-    record { bytes = ap (λ ys. put_mid at ((at + length text) - at) xs ys) e ∙ ap (λ ys. take at xs ++ (text ++ ys)) (drop-drop ((at + length text) - at) at xs ∙ ap (λ n. drop (at + n) xs) k); stops = refl }
-
--- room for one text after another
-pub room_left : (a b : List ℕ) (at : ℕ) {n : ℕ} → at + length (a ++ b) ≤ n → at + length a ≤ n
-room_left a b at h = omega (arith, length-append a b)
-
-module _ (a b : List ℕ) {at : ℕ} {xs ys : List ℕ} {mid : ℕ} where
-  pub room_next : at + length (a ++ b) ≤ length xs → Wrote a at xs ys mid → mid + length b ≤ length ys
-  room_next h w = omega (arith, length-append a b, w.stops, wrote_length (room_left a b at h) w)
-
-  pub wrote_next : {zs : List ℕ} {end : ℕ} → at + length (a ++ b) ≤ length xs → Wrote a at xs ys mid → Wrote b mid ys zs end → Wrote (a ++ b) at xs zs end
-  wrote_next h v w = wrote_more {a = a} {b = b} h v w
+    ap (λ ys. put_mid at ((at + length text) - at) xs ys) e ∙ ap (λ ys. take at xs ++ (text ++ ys)) (drop-drop ((at + length text) - at) at xs ∙ ap (λ n. drop (at + n) xs) k)

@@ -1,6 +1,7 @@
 -- A report: its bytes, and a buffer that they are written into.
-use Rattle.std.specs.Prelude.{◌≡◌, ℕ, ◌+◌, cond, List, [], ◌∷◌, ◌++◌, length, take, drop, Ok, Err, codes, decimal, Result, nat_le}
+use Rattle.std.specs.Prelude.{◌≡◌, ℕ, ◌+◌, ◌-◌, ◌^◌, ◌<◌, ◌≤◌, min, cond, List, [], ◌∷◌, ◌++◌, length, take, drop, Ok, Err, codes, decimal, Result, nat_le}
 use Rattle.formats.specs.declared.report.LevelTally.{LevelTally}
+use Rattle.formats.specs.declared.report.cursor.Cursor.{Cursor}
 use Rattle.formats.specs.declared.report.ReportFault.{ReportFault}
 use Rattle.formats.specs.declared.report.ReportFault.TheVariants.{Short}
 
@@ -40,7 +41,8 @@ placed text at buffer = take at buffer ++ (text ++ drop (at + length text) buffe
 abbrev pub report_buffer : List ℕ → List ℕ → List ℕ
 report_buffer text buffer = cond (nat_le (length text) (length buffer)) (placed text 0 buffer) buffer
 
--- a text was written into a buffer from a place on, up to an end
-pub record Wrote (text : List ℕ) (at : ℕ) (before after : List ℕ) (end : ℕ) : Type 0 where
-  pub bytes : after ≡ placed text at before
-  pub stops : end ≡ at + length text
+-- a cursor stands behind a text, and where its buffer had room for the text, the buffer holds it; the buffer is the same that was lent
+pub record Wrote (text : List ℕ) (before after : Cursor) : Type 0 where
+  pub stops : before.at < 2 ^ 64 → after.at ≡ min (before.at + length text) (2 ^ 64 - 1)
+  pub bytes : before.at + length text ≤ length before.buffer.now → length before.buffer.now < 2 ^ 64 → after.buffer.now ≡ placed text before.at before.buffer.now
+  pub same_reference : after.buffer.ghost_name ≡ before.buffer.ghost_name

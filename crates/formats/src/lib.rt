@@ -5,6 +5,6 @@ mod report;
 mod sheet;
 mod trace;
 
-pub use report::{LevelTally, ReportFault, write_report};
+pub use report::{LevelTally, Report, ReportFault};
 pub use sheet::{Images, Sheet, SheetFault, read_sheet};
 pub use trace::{Line, Lines, TraceFault, examples_hold, fill_in, first_line, judge, number_in};

@@ -7,6 +7,14 @@ pub struct LevelTally {
     pub hits: u32,
 }
 
+// A line for each level, the touches that the floor served and the refused lines.
+#[derive(Clone, Copy, Debug)]
+pub struct Report<'a> {
+    pub levels: &'a [LevelTally],
+    pub floor: u64,
+    pub refused: u64,
+}
+
 // Why a report was not written.
 #[derive(Clone, Copy, PartialEq, Eq, Debug)]
 pub enum ReportFault {
@@ -14,7 +22,6 @@ pub enum ReportFault {
     Short,
 }
 
-mod lengths;
+mod cursor;
+mod fault;
 mod writing;
-
-pub use writing::write_report;

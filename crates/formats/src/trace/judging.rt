@@ -1,11 +1,10 @@
 // A trace judged: its header, and then all its lines.
 ghost use Rattle.std.specs.Prelude.{◌≡◌, ℕ, List};
-ghost use Rattle.formats.specs.Traces.{lines, judged_after as judged, is_header as heading, judged as judged_trace};
+ghost use Rattle.formats.specs.Traces.{lines, judged_after as judged, judged as judged_trace};
 ghost use Rattle.formats.specs.TraceLaws.{JudgedRightly as rightly, TakenRightly, ExamplesHold};
 ghost use Rattle.formats.specs.Shown.{shown_rest as left};
 
 use crate::trace::TraceFault;
-use crate::trace::fields::cut;
 use crate::trace::lines::Lines;
 
 // Judges the lines after the header.
@@ -25,21 +24,13 @@ fn judge_lines(body: &[u8]) -> Result<(), TraceFault>
     }
 }
 
-// Whether a text is the first line of a trace.
-fn is_header(text: &[u8]) -> bool
-    ensures { result ≡ heading text.now }
-{
-    text == b"demote-trace 1".as_slice()
-}
-
 // Judges the header and the lines after it.
 fn judge_all(trace: &[u8]) -> Result<&[u8], TraceFault>
     ensures { left result ≡ judged_trace trace.now }
 {
-    let (first, body) = cut(trace, b'\n').ok_or(TraceFault::Broken(1))?;
-    if !is_header(first) {
-        return Err(TraceFault::Broken(1));
-    }
+    let body = trace
+        .strip_prefix(b"demote-trace 1\n")
+        .ok_or(TraceFault::Broken(1))?;
     judge_lines(body)?;
     Ok(body)
 }

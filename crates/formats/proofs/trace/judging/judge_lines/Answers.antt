@@ -1,4 +1,4 @@
-use Rattle.std.proofs.Common.{length, sym, ap, ◌∙◌, ◌<◌, arith}
+use Rattle.std.proofs.Common.{length, sym, ◌<◌, arith}
 use Rattle.std.proofs.lemmas.Bool.{eqb-true, eqb-false}
 use Rattle.formats.proofs.Judged.{judging_more, judging_done, judging_broken}
 use Rattle.formats.proofs.trace.judging.judge_lines.Goals as goal
