@@ -1,5 +1,5 @@
 // The layouts of two sheets over the same images, from bytes.
-ghost use Rattle.std.specs.Prelude.{◌≡◌, ◌≤◌};
+ghost use Rattle.std.specs.Prelude.{◌≡◌};
 ghost use Rattle.comparing.specs.Sheets.{Proved, shown, memory_or, layouts_answer};
 ghost use Rattle.comparing.specs.Sides.{SidesWeighed};
 ghost use Rattle.device.specs.Bytes.{of_bytes as blocks};
@@ -13,7 +13,7 @@ use crate::side::{ImagePair, Side};
 use certificate::Comparison;
 use device::{Device, Image};
 use formats::{Images, Sheet};
-use layers::Stripe;
+use layers::{Stripe, Unit};
 use std::alloc::Global;
 
 // The first layout over one image, the second over another.
@@ -31,18 +31,6 @@ fn compare_single(
     compare_listed(heap, &mut one, first, &mut other, second)
 }
 
-// A stripe of two lent devices in runs of `unit` blocks.
-fn stripe_of<D, E>(first: D, second: E, unit: u8) -> Stripe<D, E>
-    requires { (1 ≤ unit) × (unit ≤ 64) }
-    ensures first { result.first ≡ first }
-    ensures second { result.second ≡ second }
-    ensures unit { result.unit ≡ unit }
-{
-    let mut stripe = Stripe::new(first, second);
-    let _ = stripe.set_unit(u32::from(unit));
-    stripe
-}
-
 // The first layout over a stripe, the second over another of the same unit.
 fn compare_stripes<D: Device, E: Device, F: Device, G: Device>(
     heap: Global,
@@ -52,13 +40,12 @@ fn compare_stripes<D: Device, E: Device, F: Device, G: Device>(
     other_first: &mut F,
     other_second: &mut G,
     second: Side<&Sheet>,
-    unit: u8,
+    unit: Unit,
 ) -> Result<Comparison, LayoutFault>
-    requires { (1 ≤ unit) × (unit ≤ 64) }
     ensures { SidesWeighed first.entry (striped unit (D.Source.store one_first.old) (E.Source.store one_second.old)) second.entry (striped unit (F.Source.store other_first.old) (G.Source.store other_second.old)) result }
 {
-    let one = stripe_of(one_first, one_second, unit);
-    let other = stripe_of(other_first, other_second, unit);
+    let one = Stripe::with_unit(one_first, one_second, unit);
+    let other = Stripe::with_unit(other_first, other_second, unit);
     compare_listed(heap, one, first, other, second)
 }
 
@@ -71,9 +58,8 @@ fn compare_pairs(
     other_first: &mut [u8],
     other_second: &mut [u8],
     second: Side<&Sheet>,
-    unit: u8,
+    unit: Unit,
 ) -> Result<Comparison, LayoutFault>
-    requires { (1 ≤ unit) × (unit ≤ 64) }
     ensures { SidesWeighed first.entry (striped unit (blocks one_first.old) (blocks one_second.old)) second.entry (striped unit (blocks other_first.old) (blocks other_second.old)) result }
 {
     let mut a = Image::new(one_first);
@@ -103,9 +89,8 @@ fn compare_striped_copies(
     first: Side<&Sheet>,
     second: Side<&Sheet>,
     images: ImagePair,
-    unit: u8,
+    unit: Unit,
 ) -> Result<Comparison, LayoutFault>
-    requires { (1 ≤ unit) × (unit ≤ 64) }
     ensures { SidesWeighed first.entry (striped unit (blocks images.entry.first.now) (blocks images.entry.second.now)) second.entry (striped unit (blocks images.entry.first.now) (blocks images.entry.second.now)) result }
 {
     let mut a = Vec::from_slice(heap, images.first)?;
@@ -131,6 +116,7 @@ pub fn compare_images(
             if unit != other {
                 return Err(LayoutFault::Images);
             }
+            let unit = Unit::try_from(u32::from(unit)).unwrap();
             compare_striped_copies(heap, first, second, images, unit)
         }
         _ => Err(LayoutFault::Images),

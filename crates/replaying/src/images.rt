@@ -17,7 +17,7 @@ use crate::levels::replay_levels;
 use crate::running::Outcome;
 use device::{Device, Image};
 use formats::Images;
-use layers::{DefectFault, DefectList, Stripe};
+use layers::{DefectFault, DefectList, Stripe, Unit};
 use std::alloc::{AllocError, Global};
 
 // Numbers that rise and are few are refused for want of memory alone.
@@ -75,26 +75,6 @@ fn replay_image(heap: Global, bytes: &mut [u8], job: Job) -> Result<Outcome, Rep
     replay_listed(heap, &mut image, job)
 }
 
-// Sets the unit of a stripe and runs the lines on it.
-fn replay_stripe<D: Device, E: Device>(
-    heap: Global,
-    stripe: &mut Stripe<D, E>,
-    unit: u8,
-    job: Job,
-) -> Result<Outcome, ReplayFault>
-    requires { (1 ≤ unit) × (unit ≤ 64) }
-    ensures told { JobTells job.entry (striped unit (D.Source.store stripe.old.first) (E.Source.store stripe.old.second)) result }
-    ensures first { (D.Source.store stripe.new.first).at ≡ first_half unit (job_leaves job.entry (striped unit (D.Source.store stripe.old.first) (E.Source.store stripe.old.second)) result) }
-    ensures second { (E.Source.store stripe.new.second).at ≡ second_half unit (job_leaves job.entry (striped unit (D.Source.store stripe.old.first) (E.Source.store stripe.old.second)) result) }
-    ensures first_loans { D.Device.loans stripe.new.first ≡ D.Device.loans stripe.old.first }
-    ensures second_loans { E.Device.loans stripe.new.second ≡ E.Device.loans stripe.old.second }
-{
-    match stripe.set_unit(u32::from(unit)) {
-        Ok(()) => replay_listed(heap, stripe, job),
-        Err(_) => unreachable(),
-    }
-}
-
 // Stripes two devices and runs the lines on them.
 fn replay_striped<D: Device, E: Device>(
     heap: Global,
@@ -110,8 +90,9 @@ fn replay_striped<D: Device, E: Device>(
     ensures first_loans { D.Device.loans first.new ≡ D.Device.loans first.old }
     ensures second_loans { E.Device.loans second.new ≡ E.Device.loans second.old }
 {
-    let mut stripe = Stripe::new(first, second);
-    replay_stripe(heap, &mut stripe, unit, job)
+    let unit = Unit::try_from(u32::from(unit)).unwrap();
+    let mut stripe = Stripe::with_unit(first, second, unit);
+    replay_listed(heap, &mut stripe, job)
 }
 
 // On two images in runs of `unit` blocks.
