@@ -4,7 +4,7 @@
 
 use anyhow::anyhow;
 use files::{read_some, write_over};
-use formats::{Images, SheetFault, read_sheet, write_report};
+use formats::{Images, Report, SheetFault, read_sheet};
 use replaying::{ReplayFault, Replayed, replay};
 use std::io;
 use std::io::{Read, Write};
@@ -53,8 +53,13 @@ fn read_second(rt: &HostRuntime, sheet: &[u8]) -> anyhow::Result<Vec<u8>> {
 // Prints what a replay tells.
 fn print_report(rt: &HostRuntime, told: &Replayed) -> anyhow::Result<()> {
     let mut buffer = [0u8; REPORT_BYTES];
-    let levels = &told.levels;
-    let length = write_report(&mut buffer, levels, u64::from(told.floor), told.refused)
+    let report = Report {
+        levels: &told.levels,
+        floor: u64::from(told.floor),
+        refused: told.refused,
+    };
+    let length = report
+        .write(&mut buffer)
         .map_err(|_| anyhow!("the report is too long"))?;
     Ok(rt.stdout().write_all(&buffer[..length])?)
 }
