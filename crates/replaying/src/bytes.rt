@@ -29,6 +29,7 @@ pub struct Replayed {
 }
 
 // Puts each level's capacity and hits into an empty list that has room for them.
+// By the level's number, since a zip with the hits would leave out a level that has no tally.
 fn tally(mut levels: Vec<LevelTally>, capacities: &[u8], tallies: &Tallies) -> Vec<LevelTally>
     requires empty { items levels ≡ [] }
     requires room { length capacities.now ≤ room levels }

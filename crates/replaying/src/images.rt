@@ -114,6 +114,7 @@ fn replay_pair(
 }
 
 // Runs the lines on the sheet's levels and defects over its images. One image leaves a second slice untouched.
+// Two slices and no struct of them, since a clause says of each what it holds at the end.
 pub fn replay_images(
     heap: Global,
     first: &mut [u8],

@@ -27,6 +27,7 @@ pub fn level_of<T>(below: T, capacity: u8) -> Level<T>
 }
 
 // Does the work on empty levels of these capacities over a tier, the first one on top.
+// By cases and no loop, since each level more is a type of its own.
 pub fn on_levels<T: Tier, W: Work>(tier: T, capacities: &[u8], work: W) -> Done<T, W::Told>
     requires lawful { Capacities capacities.now }
     requires needs { W.needs work (stacked capacities.now (T.Tier.model tier)) }
@@ -38,9 +39,10 @@ pub fn on_levels<T: Tier, W: Work>(tier: T, capacities: &[u8], work: W) -> Done<
         [a] => Under::new(work, *a).on(tier),
         [a, b] => Under::new(Under::new(work, *a), *b).on(tier),
         [a, b, c] => Under::new(Under::new(Under::new(work, *a), *b), *c).on(tier),
-        [a, b, c, d] => Under::new(Under::new(Under::new(Under::new(work, *a), *b), *c), *d).on(
-            tier,
-        ),
+        [a, b, c, d] => {
+            let work = Under::new(Under::new(work, *a), *b);
+            Under::new(Under::new(work, *c), *d).on(tier)
+        }
         _ => unreachable(),
     }
 }
