@@ -3,11 +3,9 @@
 #![tactic(auto)]
 
 use anyhow::anyhow;
-use certificate::{CompareFault, Comparison, Verdict};
-use comparing::{LayoutFault, compare_sheets};
-use formats::SheetFault;
-use std::fs::File;
-use std::io::{ErrorKind, Read};
+use certificate::{Comparison, Verdict};
+use comparing::{ImagePair, LayoutFault, Side, compare_sheets};
+use files::read_some;
 use std::{env, io};
 
 const USAGE: &str = "usage: compare FIRST.sheet SECOND.sheet [LEVELS LEVELS]";
@@ -25,22 +23,6 @@ const SHEET_BYTES: u64 = 64;
 // As many levels as a sheet can list: all of them.
 const ALL: u32 = 4;
 
-// The first bytes of a file, up to so many; a missing file has none.
-fn read_some(rt: &HostRuntime, path: &str, most: u64) -> io::Result<Vec<u8>> {
-    let mut bytes = Vec::new(rt.alloc());
-    match File::open(rt, path) {
-        Ok(file) => {
-            file.take(most).read_to_end(&mut bytes)?;
-        }
-        Err(e) => {
-            if e.kind() != ErrorKind::NotFound {
-                return Err(e);
-            }
-        }
-    }
-    Ok(bytes)
-}
-
 // A trace of the reads that tell the layouts apart.
 fn print_trace(rt: &HostRuntime, reads: &[u32]) -> io::Result<()> {
     println!(rt; "demote-trace 1")?;
@@ -51,12 +33,9 @@ fn print_trace(rt: &HostRuntime, reads: &[u32]) -> io::Result<()> {
 }
 
 fn print_comparison(rt: &HostRuntime, comparison: &Comparison) -> io::Result<()> {
-    let first = comparison.first;
-    let second = comparison.second;
-    let sound = comparison.sound;
-    println!(rt; "first capacity {first}")?;
-    println!(rt; "second capacity {second}")?;
-    println!(rt; "sound blocks {sound}")?;
+    println!(rt; "first capacity {}", comparison.first)?;
+    println!(rt; "second capacity {}", comparison.second)?;
+    println!(rt; "sound blocks {}", comparison.sound)?;
     match &comparison.verdict {
         Verdict::Alike => println!(rt; "alike on every trace"),
         Verdict::Differ(reads) => {
@@ -66,46 +45,10 @@ fn print_comparison(rt: &HostRuntime, comparison: &Comparison) -> io::Result<()>
     }
 }
 
-// A refused sheet, by its number and the place of the first fault. Want of memory is an error.
-fn print_sheet(rt: &HostRuntime, which: &str, fault: SheetFault) -> anyhow::Result<()> {
-    let number = fault.number();
-    match fault {
-        SheetFault::Cut(at) | SheetFault::Broken(at) | SheetFault::Extra(at) => {
-            println!(rt; "{which} sheet {number} at {at}")?
-        }
-        SheetFault::Memory => return Err(anyhow!("no memory")),
-    }
-    Ok(())
-}
-
-// Why the layouts were not compared.
-fn print_refusal(rt: &HostRuntime, fault: LayoutFault) -> anyhow::Result<()> {
-    match fault {
-        LayoutFault::First(fault) => print_sheet(rt, "first", fault)?,
-        LayoutFault::Second(fault) => print_sheet(rt, "second", fault)?,
-        LayoutFault::Images => println!(rt; "the sheets list different images")?,
-        LayoutFault::Compare(CompareFault::Devices) => {
-            println!(rt; "the sheets describe different devices")?
-        }
-        LayoutFault::Compare(CompareFault::First(fault)) => {
-            let number = fault.number();
-            println!(rt; "first layout {number}")?
-        }
-        LayoutFault::Compare(CompareFault::Second(fault)) => {
-            let number = fault.number();
-            println!(rt; "second layout {number}")?
-        }
-        LayoutFault::Compare(CompareFault::Memory) | LayoutFault::Memory => {
-            return Err(anyhow!("no memory"));
-        }
-    }
-    Ok(())
-}
-
 // How many levels of a layout to compare: all where no number is given.
 fn levels(word: Option<String>) -> anyhow::Result<u32> {
     match word {
-        Some(text) => Ok(text.as_str().parse::<u32>()?),
+        Some(text) => Ok(text.as_str().parse()?),
         None => Ok(ALL),
     }
 }
@@ -118,13 +61,26 @@ fn run(rt: &HostRuntime) -> anyhow::Result<()> {
     };
     let j = levels(words.next())?;
     let k = levels(words.next())?;
-    let first = read_some(rt, one.as_str(), SHEET_BYTES)?;
-    let second = read_some(rt, other.as_str(), SHEET_BYTES)?;
+    let one = read_some(rt, one.as_str(), SHEET_BYTES)?;
+    let other = read_some(rt, other.as_str(), SHEET_BYTES)?;
     let image = read_some(rt, FIRST, IMAGE_BYTES)?;
     let image2 = read_some(rt, SECOND, IMAGE_BYTES)?;
-    match compare_sheets(rt.alloc(), &first, j, &second, k, &image, &image2) {
+    let first = Side {
+        sheet: one.as_slice(),
+        levels: j,
+    };
+    let second = Side {
+        sheet: other.as_slice(),
+        levels: k,
+    };
+    let images = ImagePair {
+        first: &image,
+        second: &image2,
+    };
+    match compare_sheets(rt.alloc(), first, second, images) {
         Ok(comparison) => print_comparison(rt, &comparison)?,
-        Err(fault) => print_refusal(rt, fault)?,
+        Err(LayoutFault::Memory) => return Err(LayoutFault::Memory.into()),
+        Err(fault) => println!(rt; "{fault}")?,
     }
     Ok(())
 }

@@ -5,7 +5,6 @@ use Rattle.formats.specs.declared.sheet.Images.TheVariants.{Single, Striped}
 use Rattle.formats.specs.declared.sheet.SheetFault.{SheetFault}
 use Rattle.formats.specs.Sheets.{Listed, sheet_of}
 use Rattle.certificate.specs.declared.weighing.CompareFault.{CompareFault}
-use Rattle.certificate.specs.declared.weighing.CompareFault.TheVariants.{First as OfFirst, Second as OfSecond, Devices as OfDevices, Memory as NoMemory}
 use Rattle.certificate.specs.declared.weighing.Comparison.{Comparison}
 use Rattle.certificate.specs.Certificates.{Certified, Certificate}
 use Rattle.certificate.specs.Weighings.{Weighing, compare_answer, seen_comparison}
@@ -55,14 +54,6 @@ had_memory (Err Memory) = false
 -- want of memory is the only freedom
 abbrev pub memory_or : Result Comparison LayoutFault → Result Weighing LayoutFault → Result Weighing LayoutFault
 memory_or r given = cond (had_memory r) given (Err Memory)
-
--- a comparison of two tiers as one of two layouts
-abbrev pub relayed : Result Comparison CompareFault → Result Comparison LayoutFault
-relayed (Ok c) = Ok c
-relayed (Err (OfFirst f)) = Err (Compare (OfFirst f))
-relayed (Err (OfSecond f)) = Err (Compare (OfSecond f))
-relayed (Err OfDevices) = Err (Compare OfDevices)
-relayed (Err NoMemory) = Err Memory
 
 -- what is proved by each answer of a comparison of two tiers
 abbrev pub Proved : Model → ℕ → Model → ℕ → Result Comparison LayoutFault → Type 0

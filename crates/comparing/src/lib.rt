@@ -6,6 +6,8 @@ mod devices;
 mod fault;
 mod levels;
 mod sheets;
+mod side;
 
 pub use bytes::compare_sheets;
 pub use fault::LayoutFault;
+pub use side::{ImagePair, Side};

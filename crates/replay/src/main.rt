@@ -3,19 +3,17 @@
 #![tactic(auto)]
 
 use anyhow::anyhow;
-use formats::{Images, SheetFault, TraceFault, read_sheet, write_report};
+use files::{read_some, write_over};
+use formats::{Images, Report, SheetFault, read_sheet};
 use replaying::{ReplayFault, Replayed, replay};
-use std::fs::{File, OpenOptions};
 use std::io;
-use std::io::{ErrorKind, Read, Write};
+use std::io::{Read, Write};
 
 const SHEET: &str = "pile.sheet";
 
 const FIRST: &str = "image.bin";
 
 const SECOND: &str = "image2.bin";
-
-const NO_MEMORY: &str = "no memory";
 
 // The most bytes that are read of an image.
 const IMAGE_BYTES: u64 = 32768;
@@ -29,44 +27,17 @@ const SHEET_BYTES: u64 = 64;
 // A report of four levels has fewer bytes.
 const REPORT_BYTES: usize = 1024;
 
-// The first bytes of a file, up to so many; a missing file has none.
-fn read_some(rt: &HostRuntime, path: &str, most: u64) -> io::Result<Vec<u8>> {
-    let mut bytes = Vec::new(rt.alloc());
-    match File::open(rt, path) {
-        Ok(file) => {
-            file.take(most).read_to_end(&mut bytes)?;
-        }
-        Err(e) => {
-            if e.kind() != ErrorKind::NotFound {
-                return Err(e);
-            }
-        }
-    }
-    Ok(bytes)
-}
-
 fn read_trace(rt: &HostRuntime) -> io::Result<Vec<u8>> {
     let mut bytes = Vec::new(rt.alloc());
     rt.stdin().take(TRACE_BYTES).read_to_end(&mut bytes)?;
     Ok(bytes)
 }
 
-// Writes the bytes over the file's first ones, which are as many. Where there are none there is nothing to write.
-fn write_back(rt: &HostRuntime, path: &str, bytes: &[u8]) -> io::Result<()> {
-    if bytes.is_empty() {
-        return Ok(());
-    }
-    OpenOptions::new()
-        .write(true)
-        .open(rt, path)?
-        .write_all(bytes)
-}
-
 // Whether the sheet lists a second image.
 fn lists_second(rt: &HostRuntime, sheet: &[u8]) -> anyhow::Result<bool> {
     match read_sheet(rt.alloc(), sheet) {
         Ok(listed) => Ok(matches!(listed.images, Images::Striped(_))),
-        Err(SheetFault::Memory) => Err(anyhow!("{NO_MEMORY}")),
+        Err(SheetFault::Memory) => Err(SheetFault::Memory.into()),
         Err(_) => Ok(false),
     }
 }
@@ -82,27 +53,15 @@ fn read_second(rt: &HostRuntime, sheet: &[u8]) -> anyhow::Result<Vec<u8>> {
 // Prints what a replay tells.
 fn print_report(rt: &HostRuntime, told: &Replayed) -> anyhow::Result<()> {
     let mut buffer = [0u8; REPORT_BYTES];
-    let levels = &told.levels;
-    match write_report(&mut buffer, levels, u64::from(told.floor), told.refused) {
-        Ok(length) => rt.stdout().write_all(&buffer[0..length])?,
-        Err(_) => return Err(anyhow!("the report is too long")),
-    }
-    Ok(())
-}
-
-// Prints why nothing was replayed, by its number and the place of the first fault. Want of memory is an error.
-fn print_refusal(rt: &HostRuntime, fault: ReplayFault) -> anyhow::Result<()> {
-    let number = fault.number();
-    match fault {
-        ReplayFault::Sheet(SheetFault::Cut(at))
-        | ReplayFault::Sheet(SheetFault::Broken(at))
-        | ReplayFault::Sheet(SheetFault::Extra(at)) => println!(rt; "sheet {number} at {at}")?,
-        ReplayFault::Trace(TraceFault::Broken(line)) => println!(rt; "trace {number} at {line}")?,
-        ReplayFault::Sheet(SheetFault::Memory) | ReplayFault::Memory => {
-            return Err(anyhow!("{NO_MEMORY}"));
-        }
-    }
-    Ok(())
+    let report = Report {
+        levels: &told.levels,
+        floor: u64::from(told.floor),
+        refused: told.refused,
+    };
+    let length = report
+        .write(&mut buffer)
+        .map_err(|_| anyhow!("the report is too long"))?;
+    Ok(rt.stdout().write_all(&buffer[..length])?)
 }
 
 fn run(rt: &HostRuntime) -> anyhow::Result<()> {
@@ -112,11 +71,12 @@ fn run(rt: &HostRuntime) -> anyhow::Result<()> {
     let trace = read_trace(rt)?;
     match replay(rt.alloc(), &sheet, &mut first, &mut second, &trace) {
         Ok(told) => {
-            write_back(rt, FIRST, &first)?;
-            write_back(rt, SECOND, &second)?;
+            write_over(rt, FIRST, &first)?;
+            write_over(rt, SECOND, &second)?;
             print_report(rt, &told)
         }
-        Err(fault) => print_refusal(rt, fault),
+        Err(ReplayFault::Memory) => Err(ReplayFault::Memory.into()),
+        Err(fault) => Ok(println!(rt; "{fault}")?),
     }
 }
 

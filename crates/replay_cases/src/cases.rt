@@ -1,43 +1,21 @@
 // The cases: a sheet, images and a trace each.
-use formats::{SheetFault, TraceFault};
-use replaying::{ReplayFault, Replayed, replay};
+use replaying::{Replayed, replay};
 
 fn print_told(rt: &HostRuntime, told: &Replayed) -> anyhow::Result<()> {
-    for level in told.levels.iter() {
-        let capacity = level.capacity;
-        let hits = level.hits;
-        println!(rt; "  capacity {capacity} hits {hits}")?;
+    for level in &told.levels {
+        println!(rt; "  capacity {} hits {}", level.capacity, level.hits)?;
     }
-    let floor = told.floor;
-    let refused = told.refused;
-    println!(rt; "  floor {floor} refused {refused}")?;
-    Ok(())
-}
-
-fn print_fault(rt: &HostRuntime, fault: ReplayFault) -> anyhow::Result<()> {
-    let number = fault.number();
-    match fault {
-        ReplayFault::Sheet(SheetFault::Cut(at))
-        | ReplayFault::Sheet(SheetFault::Broken(at))
-        | ReplayFault::Sheet(SheetFault::Extra(at)) => println!(rt; "  sheet {number} at {at}")?,
-        ReplayFault::Trace(TraceFault::Broken(line)) => println!(rt; "  trace {number} at {line}")?,
-        ReplayFault::Sheet(SheetFault::Memory) | ReplayFault::Memory => println!(rt;
-            "  no memory"
-        )?,
-    }
-    Ok(())
+    Ok(println!(rt; "  floor {} refused {}", told.floor, told.refused)?)
 }
 
 // The first byte of each block, and then the last byte of all.
 fn print_image(rt: &HostRuntime, name: &str, bytes: &[u8]) -> anyhow::Result<()> {
     print!(rt; "  {name}:")?;
-    for at in (0..bytes.len()).step_by(256) {
-        let byte = bytes.get(at).copied().unwrap_or(0);
-        print!(rt; " {byte}")?;
+    for block in bytes.chunks(256) {
+        print!(rt; " {}", block[0])?;
     }
-    let last = bytes.last().copied().unwrap_or(0);
-    println!(rt; ", last {last}")?;
-    Ok(())
+    let last = bytes.last().unwrap_or(&0);
+    Ok(println!(rt; ", last {last}")?)
 }
 
 fn show(
@@ -51,7 +29,7 @@ fn show(
     println!(rt; "{name}")?;
     match replay(rt.alloc(), sheet, first, second, trace) {
         Ok(told) => print_told(rt, &told)?,
-        Err(fault) => print_fault(rt, fault)?,
+        Err(fault) => println!(rt; "  {fault}")?,
     }
     print_image(rt, "first", first)?;
     print_image(rt, "second", second)

@@ -1,16 +1,12 @@
 -- A replay that was refused leaves the images as they were.
-use Rattle.std.proofs.Common.{◌≡◌, ℕ, Bool, false, cond, List, Err, Result, refl, ap, arith}
+use Rattle.std.proofs.Common.{◌≡◌, ℕ, Bool, false, cond, List, refl, ap, arith}
 use Rattle.device.specs.Bytes.{of_bytes}
 use Rattle.device.proofs.Told.{told}
 use Rattle.formats.specs.declared.sheet.Images.{Images}
 use Rattle.formats.specs.declared.sheet.Images.TheVariants.{Single, Striped}
 use Rattle.formats.specs.Sheets.{Listed}
 use Rattle.formats.specs.SheetLaws.{LawfulUnit, Lawful}
-use Rattle.replaying.specs.declared.bytes.Replayed.{Replayed}
-use Rattle.replaying.specs.declared.fault.ReplayFault.{ReplayFault}
-use Rattle.replaying.specs.declared.fault.ReplayFault.TheVariants.{Memory}
 use Rattle.replaying.specs.Layouts.{images_store, device_of, first_of, second_of}
-use Rattle.replaying.specs.Replays.{Told, memory_or}
 use Rattle.replaying.proofs.Halves.{first_at, second_at}
 
 module _ (first second : List ℕ) where
@@ -28,10 +24,6 @@ module _ (first second : List ℕ) where
 
     pub second_kept : second_of l.images (of_bytes second).at (device_of l first second).at ≡ (of_bytes second).at
     second_kept = second_by l.images lawful.unit
-
--- want of memory is told as such
-pub wanting : (f : ReplayFault) (t : Result Told ReplayFault) → f ≡ Memory → ◌≡◌ {A = Result Told ReplayFault} (Err f) (memory_or {X = Replayed} (Err f) t)
-wanting f t e = rw e
 
 -- bytes whose blocks are those of a refusal
 pub same_bytes : (xs ys : List ℕ) (ok : Bool) (blocks : ℕ → List ℕ) → ok ≡ false → (of_bytes xs).at ≡ cond ok blocks (of_bytes ys).at → xs ≡ ys

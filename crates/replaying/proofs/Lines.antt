@@ -1,5 +1,6 @@
 -- Taking the lines of a trace one by one gives its calls in their order.
 use Rattle.std.proofs.Common.{◌≡◌, ℕ, ◌+◌, ◌<◌, ◌≤◌, Bool, true, false, cond, List, [], ◌∷◌, length, get_or, is_some, Some, None, Option, sym, refl, ap, ◌∙◌, subst, inl, inr, arith}
+use mir.Val.{bool_byte}
 use Rattle.formats.specs.Traces.{Said, said, lines, lawful_line, first_line}
 use Rattle.formats.specs.TraceLaws.{Taking}
 use Rattle.formats.proofs.Judged.{judged_more}
@@ -45,11 +46,16 @@ pub record Left (body rest : List ℕ) (start p : Pile) (refused : ℕ) : Type 0
 pub left_all : (body : List ℕ) (p : Pile) → Left body body p p 0
 left_all body p = record { pile = refl; count = omega arith; few = omega arith }
 
+as_number : (b : Bool) → bool_byte b ≡ cond b 1 0
+as_number true = refl
+as_number false = refl
+
 module _ (body rest : List ℕ) (start p : Pile) (n : ℕ) (left : Left body rest start p n) where
   -- one line more
   pub left_more : (s : Said) (next : List ℕ) → ◌≡◌ {A = Option (Said × List ℕ)} (Some (s, next)) (first_line rest) → (q : Pile) → q ≡ stepped (call_of s) p
-      → (b : Bool) → b ≡ refuses (call_of s) p → (m : ℕ) → m ≡ n + cond b 1 0 → Left body next start q m
-  left_more s next taken q step b refused m e =
+      → (b : Bool) → b ≡ refuses (call_of s) p → (m : ℕ) → m ≡ n + bool_byte b → Left body next start q m
+  left_more s next taken q step b refused m f =
+      let e : m ≡ n + cond b 1 0 = f ∙ ap (λ t. n + t) (as_number b) in
       let w = calls_more rest s next taken in
       let k : refusals (calls_of rest) p ≡ cond b 1 0 + refusals (calls_of next) q
       = ap (λ cs. refusals cs p) w.0 ∙ (ap (λ t. cond t 1 0 + refusals (calls_of next) (stepped (call_of s) p)) (sym refused) ∙ ap (λ t. cond b 1 0 + refusals (calls_of next) t) (sym step)) in

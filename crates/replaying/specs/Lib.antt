@@ -4,5 +4,6 @@ pub mod Bounds
 pub mod Layouts
 pub mod Runs
 pub mod Outcomes
+pub mod Jobs
 pub mod Replays
 pub mod Seen

@@ -25,11 +25,6 @@ synced_store cs m = (stepped sync (after cs (mounted m))).tier.store
 abbrev pub stacked : List ℕ → Model → Model
 stacked cs m = record { store = m.store; rows = map empty_row cs ++ m.rows }
 
--- a list has these numbers; only memory can be wanting
-abbrev pub FilledOr : Result (Unit {0}) ReplayFault → List ℕ → List ℕ → Type 0
-FilledOr (Ok u) xs ns = xs ≡ ns
-FilledOr (Err f) xs ns = f ≡ Memory
-
 -- only memory can be wanting
 abbrev pub TellsOr : Result Outcome ReplayFault → List Call → Model → Type 0
 TellsOr (Ok o) cs m = Tells o cs m

@@ -3,7 +3,6 @@ ghost use Rattle.std.specs.Prelude.{◌≡◌, ◌≤◌, false, [], length, is_
 ghost use Rattle.std.specs.Vec.{vec_items as items, vec_capacity as room};
 ghost use Rattle.device.specs.Bytes.{of_bytes as blocks};
 ghost use Rattle.formats.specs.Seen.{listed};
-ghost use Rattle.formats.specs.SheetLaws.{Lawful};
 ghost use Rattle.pile.specs.Tallies.{hits_of as served};
 ghost use Rattle.restoring.specs.Stacks.{BlocksTell};
 ghost use Rattle.replaying.specs.Calls.{calls_of, EveryLine};
@@ -13,7 +12,8 @@ ghost use Rattle.replaying.specs.Seen.{seen};
 
 use crate::fault::ReplayFault;
 use crate::images::replay_images;
-use formats::{LevelTally, Sheet, judge, read_sheet};
+use crate::job::Job;
+use formats::{LevelTally, judge, read_sheet};
 use pile::Tallies;
 use std::alloc::Global;
 
@@ -29,6 +29,7 @@ pub struct Replayed {
 }
 
 // Puts each level's capacity and hits into an empty list that has room for them.
+// By the level's number, since a zip with the hits would leave out a level that has no tally.
 fn tally(mut levels: Vec<LevelTally>, capacities: &[u8], tallies: &Tallies) -> Vec<LevelTally>
     requires empty { items levels ≡ [] }
     requires room { length capacities.now ≤ room levels }
@@ -44,22 +45,20 @@ fn tally(mut levels: Vec<LevelTally>, capacities: &[u8], tallies: &Tallies) -> V
 }
 
 // Replays the lines on what a sheet lists. All memory is found before the first line runs.
-fn replay_sheet(
+fn replay_job(
     heap: Global,
-    sheet: &Sheet,
+    job: Job,
     first: &mut [u8],
     second: &mut [u8],
-    body: &[u8],
 ) -> Result<Replayed, ReplayFault>
-    requires { Lawful (listed sheet.now) }
-    ensures answer { seen result ≡ memory_or result (Ok (told_of (items sheet.now.levels) (calls_of body.now) (tier_of (listed sheet.now) first.old second.old))) }
-    ensures first { (blocks first.new).at ≡ (if is_ok result then first_of sheet.now.images (left_on (listed sheet.now) first.old second.old body.now) else (blocks first.old).at) }
-    ensures second { (blocks second.new).at ≡ (if is_ok result then second_of sheet.now.images (blocks second.old).at (left_on (listed sheet.now) first.old second.old body.now) else (blocks second.old).at) }
+    ensures answer { seen result ≡ memory_or result (Ok (told_of (items job.entry.sheet.now.levels) (calls_of job.entry.body.now) (tier_of (listed job.entry.sheet.now) first.old second.old))) }
+    ensures first { (blocks first.new).at ≡ (if is_ok result then first_of job.entry.sheet.now.images (left_on (listed job.entry.sheet.now) first.old second.old job.entry.body.now) else (blocks first.old).at) }
+    ensures second { (blocks second.new).at ≡ (if is_ok result then second_of job.entry.sheet.now.images (blocks second.old).at (left_on (listed job.entry.sheet.now) first.old second.old job.entry.body.now) else (blocks second.old).at) }
 {
-    let levels = Vec::with_capacity(heap, sheet.levels.len())?;
-    let outcome = replay_images(heap, first, second, sheet, body)?;
+    let levels = Vec::with_capacity(heap, job.sheet.levels.len())?;
+    let outcome = replay_images(heap, first, second, job)?;
     Ok(Replayed {
-        levels: tally(levels, &sheet.levels, &outcome.tallies),
+        levels: tally(levels, &job.sheet.levels, &outcome.tallies),
         floor: outcome.tallies.floor(),
         refused: outcome.refused,
     })
@@ -79,7 +78,11 @@ fn replay_all(
 {
     let sheet = read_sheet(heap, sheet)?;
     let body = judge(trace)?;
-    replay_sheet(heap, &sheet, first, second, body)
+    let job = Job {
+        sheet: &sheet,
+        body,
+    };
+    replay_job(heap, job, first, second)
 }
 
 // Replays a trace on the levels, defects and images that a sheet lists, and tells the hits of each level, the touches that

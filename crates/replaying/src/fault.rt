@@ -1,10 +1,13 @@
 // Why nothing was replayed.
 ghost use Rattle.std.specs.Prelude.{◌≡◌};
-ghost use Rattle.replaying.specs.Faults.{number_of as numbered, of_sheet as converted};
+ghost use Rattle.replaying.specs.Faults.{number_of as numbered, fault_text, of_sheet as converted};
 ghost use Rattle.replaying.specs.declared.fault.ReplayFault.TheVariants.{Trace as OfTrace, Memory};
 
 use formats::{SheetFault, TraceFault};
+use refusal::Refusal;
 use std::alloc::AllocError;
+use std::error::Error;
+use std::fmt;
 
 // Why a sheet and a trace were not replayed. Nothing has changed then.
 #[derive(Clone, Copy, Debug)]
@@ -15,11 +18,10 @@ pub enum ReplayFault {
     Memory,
 }
 
-impl ReplayFault {
-    // The number by which the refusal is told; 0 for want of memory.
-    pub fn number(self) -> u8
-        ensures { result ≡ numbered self }
-    {
+impl Refusal for ReplayFault {
+    ghost number_of = { numbered };
+
+    fn number(self) -> u8 {
         match self {
             ReplayFault::Sheet(fault) => fault.number(),
             ReplayFault::Trace(fault) => fault.number(),
@@ -27,6 +29,21 @@ impl ReplayFault {
         }
     }
 }
+
+// What is refused, by its number and the place of the first fault.
+impl fmt::Display for ReplayFault {
+    ghost output = { fault_text };
+
+    fn fmt<W: fmt::Write>(&self, f: &mut fmt::Formatter<W>) -> fmt::Result {
+        match self {
+            ReplayFault::Sheet(fault) => write!(f, "sheet {fault}"),
+            ReplayFault::Trace(fault) => write!(f, "trace {fault}"),
+            ReplayFault::Memory => write!(f, "no memory"),
+        }
+    }
+}
+
+impl Error for ReplayFault {}
 
 impl From<SheetFault> for ReplayFault {
     ghost from_gives = { λ f r. r ≡ converted f };

@@ -4,10 +4,13 @@
 mod bytes;
 mod fault;
 mod images;
+mod job;
 mod levels;
 mod running;
+mod work;
 
 pub use bytes::{Replayed, replay};
 pub use fault::ReplayFault;
 pub use images::list_defects;
-pub use levels::level_of;
+pub use levels::{level_of, on_levels};
+pub use work::{Done, Work};

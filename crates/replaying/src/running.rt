@@ -9,8 +9,9 @@ ghost use Rattle.replaying.specs.Calls.{call_of, calls_of};
 ghost use Rattle.replaying.specs.Runs.{refuses, refusals};
 ghost use Rattle.replaying.specs.Outcomes.{Tells, synced_store};
 
+use crate::work::{Done, Work};
 use device::BLOCK;
-use formats::{Line, fill_in, first_line, number_in};
+use formats::{Line, Lines, fill_in, number_in};
 use pile::{Pile, Tallies};
 use tier::Tier;
 
@@ -21,10 +22,10 @@ pub struct Outcome {
     pub refused: u64,
 }
 
-// A tier after a run, and what the run tells.
-pub struct Ran<T> {
-    pub tier: T,
-    pub outcome: Outcome,
+// The lines of an accepted trace.
+#[derive(Clone, Copy)]
+pub struct Trace<'a> {
+    pub body: &'a [u8],
 }
 
 // Reads the block of a line, and tells whether that was refused.
@@ -70,41 +71,40 @@ fn run<T: Tier>(pile: &mut Pile<T>, body: &[u8]) -> u64
     ensures after { pile_of (T.Tier.model pile.new.tier) pile.new.tallies ≡ after (calls_of body.now) (pile_of (T.Tier.model pile.old.tier) pile.old.tallies) }
     ensures loans { T.Tier.loans pile.new.tier ≡ T.Tier.loans pile.old.tier }
 {
-    let mut rest = body;
     let mut refused = 0;
-    while let Some((line, next)) = first_line(rest) {
-        if run_line(pile, line) {
-            refused += 1;
-        }
-        rest = next;
+    for line in Lines::new(body) {
+        refused += u64::from(run_line(pile, line));
     }
     refused
 }
 
 // Runs the lines on a mounted tier, syncs it and ends the pile.
-fn run_out<T: Tier>(mut mounted: Pile<T>, body: &[u8]) -> Ran<T>
-    ensures after { pile_of (T.Tier.model result.tier) result.outcome.tallies ≡ stepped sync (after (calls_of body.now) (pile_of (T.Tier.model mounted.tier) mounted.tallies)) }
-    ensures refused { result.outcome.refused ≡ refusals (calls_of body.now) (pile_of (T.Tier.model mounted.tier) mounted.tallies) }
+fn run_out<T: Tier>(mut mounted: Pile<T>, body: &[u8]) -> Done<T, Outcome>
+    ensures after { pile_of (T.Tier.model result.tier) result.told.tallies ≡ stepped sync (after (calls_of body.now) (pile_of (T.Tier.model mounted.tier) mounted.tallies)) }
+    ensures refused { result.told.refused ≡ refusals (calls_of body.now) (pile_of (T.Tier.model mounted.tier) mounted.tallies) }
     ensures loans { T.Tier.loans result.tier ≡ T.Tier.loans mounted.tier }
 {
     let refused = run(&mut mounted, body);
     let _ = mounted.sync();
     let tallies = *mounted.tallies();
-    Ran {
+    Done {
         tier: mounted.unmount(),
-        outcome: Outcome { tallies, refused },
+        told: Outcome { tallies, refused },
     }
 }
 
-// Mounts a tier of at most 8 empty levels, runs the lines on it and gives it back.
-pub fn replay_on<T: Tier>(tier: T, body: &[u8]) -> Ran<T>
-    requires { mount_answer (T.Tier.model tier) ≡ Ok tt }
-    ensures told { Tells result.outcome (calls_of body.now) (T.Tier.model tier) }
-    ensures store { (T.Tier.model result.tier).store ≡ synced_store (calls_of body.now) (T.Tier.model tier) }
-    ensures loans { T.Tier.loans result.tier ≡ T.Tier.loans tier }
-{
-    match Pile::mount(tier) {
-        Ok(pile) => run_out(pile, body),
-        Err(_) => unreachable(),
+// Mounts a tier of at most 8 empty levels and runs the lines on it.
+impl Work for Trace<'_> {
+    type Told = Outcome;
+
+    ghost needs = { λ _ m. mount_answer m ≡ Ok tt };
+
+    ghost gives = { λ t m told s. Tells told (calls_of t.body.now) m × (s ≡ synced_store (calls_of t.body.now) m) };
+
+    fn on<T: Tier>(self, tier: T) -> Done<T, Outcome> {
+        match Pile::mount(tier) {
+            Ok(pile) => run_out(pile, self.body),
+            Err(_) => unreachable(),
+        }
     }
 }

@@ -1,4 +1,3 @@
-use Rattle.std.proofs.Common.{vec_items}
 use Rattle.device.specs.Bytes.{of_bytes}
 use Rattle.layers.specs.Stripes.{striped}
 use Rattle.comparing.proofs.Replaced.{devices_are}
@@ -6,5 +5,5 @@ use Rattle.comparing.proofs.sheets.compare_pairs.Goals as goal
 
 pub returns : goal.returns
 returns c =
-    devices_are c.compare_stripes.result c.args.j c.args.k (vec_items c.args.first.now.levels) (vec_items c.args.first.now.defects) (vec_items c.args.second.now.levels) (vec_items c.args.second.now.defects)
+    devices_are c.compare_stripes.result c.args.first c.args.second
     _ _ _ _ (λ i. striped c.args.unit (of_bytes (c.new-a.ensures.bytes i)) (of_bytes (c.new-b.ensures.bytes i))) (λ i. striped c.args.unit (of_bytes (c.new-c.ensures.bytes i)) (of_bytes (c.new-d.ensures.bytes i))) c.compare_stripes.ensures

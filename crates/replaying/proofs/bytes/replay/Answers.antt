@@ -5,18 +5,17 @@ use Rattle.replaying.proofs.Every.{every_line}
 use Rattle.replaying.proofs.Kept.{same_bytes}
 use Rattle.replaying.proofs.bytes.replay.Goals as goal
 
-pub returns : goal.returns
-returns c =
+pub returns-clause-refused : goal.returns-clause-refused
+returns-clause-refused c =
     let r = c.replay_all.ensures in
+    let ok = is_ok c.replay_all.result in
     let plan = plan_of c.args.sheet.now c.args.trace.now in
-    record {
-      answer = r.answer;
-      first = r.first;
-      second = r.second;
-      refused = λ e. (
-        same_bytes c.replay_all.new.first c.args.first.now (is_ok c.replay_all.result) (first_left plan c.args.first.now c.args.second.now) e r.first,
-        same_bytes c.replay_all.new.second c.args.second.now (is_ok c.replay_all.result) (second_left plan c.args.first.now c.args.second.now) e r.second,
-      );
-      told = blocks_tell;
-      lines = every_line c.args.trace.now;
-    }
+    let one = c.args.first.now in
+    let two = c.args.second.now in
+    λ e. (same_bytes c.replay_all.new.first one ok (first_left plan one two) e r.first, same_bytes c.replay_all.new.second two ok (second_left plan one two) e r.second)
+
+pub returns-clause-told : goal.returns-clause-told
+returns-clause-told c = blocks_tell
+
+pub returns-clause-lines : goal.returns-clause-lines
+returns-clause-lines c = every_line c.args.trace.now
