@@ -126,7 +126,3 @@ after_first x y (z ∷ zs) ys d e =
           let q : after x zs ≡ y ∷ ys = (rw k at e) in
           rw (apart (member_after x y zs ys q)) (after_first x y zs ys (distinct_tail z zs d) q)
     ]
-
-pub length_after : (x : ℕ) (xs : List ℕ) → length (after x xs) ≤ length xs
-length_after x [] = omega arith
-length_after x (y ∷ ys) = let ih = length_after x ys in elim (cases_Bool (eqb x y)) [ inl k ↦ rw k (omega arith) | inr k ↦ rw k (omega arith) ]

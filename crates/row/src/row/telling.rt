@@ -58,7 +58,8 @@ impl Row {
         self.shelf.first()
     }
 
-    // The slot of the entry behind the one in a slot.
+    // The slot of the entry behind the one in a slot. Who marks entries on the way walks by this: an iterator would lend the
+    // row out.
     pub fn next_slot(&self, slot: Slot) -> Option<Slot>
         requires { Stands self.now slot }
         ensures standing { Standing self.now result }
