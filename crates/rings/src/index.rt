@@ -4,7 +4,8 @@ ghost use Rattle.rings.specs.Buckets.{Filed};
 
 use crate::rings::Rings;
 
-// A hash table over sixteen slots: each bucket is a ring, and a slot is filed in the bucket of its number.
+// A hash table over sixteen slots: each bucket is a ring, and a slot is filed in the bucket of its number. The numbers stand
+// in an array beside the rings, and in no map, since filing a slot allocates nothing.
 #[derive(Drop)]
 pub struct Index {
     rings: Rings,

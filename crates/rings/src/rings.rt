@@ -7,6 +7,7 @@ use crate::links::Link;
 
 // Sixteen doubly linked rings over sixteen slots, each slot in at most one. Places 0 to 15 are the slots, and ring r
 // begins and ends at the place 16 + r, so that no link is ever missing. A slot in no ring is linked to itself.
+// Places name one another by number, and not by `Box`, since moving a slot allocates nothing.
 #[derive(Drop)]
 pub struct Rings {
     links: [Link; 32],

@@ -7,7 +7,7 @@ use crate::frame::Frame;
 use crate::shelf::Shelf;
 
 // The blocks of one level: the shelf says which slot has which block, and in what order, and the frame of a slot has the
-// block's bytes and its mark.
+// block's bytes and its mark. Frames are an array beside the shelf, since taking a block in allocates nothing.
 #[derive(Drop)]
 pub struct Row {
     shelf: Shelf,
