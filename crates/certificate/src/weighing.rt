@@ -13,7 +13,7 @@ use pile::{MountFault, check_mount};
 use std::alloc::{AllocError, Global};
 use tier::Tier;
 
-// What a comparison of two layouts comes to.
+// What a comparison of two layouts comes to. It is no `Option` of reads: `None` would not say that they serve alike.
 #[derive(Drop)]
 pub enum Verdict {
     // They serve equally many touches on every list of calls.

@@ -1,20 +1,10 @@
 -- A level takes an entry in and hands down what has to leave; a block that its row does not have is lifted from below.
-use Rattle.std.proofs.Common.{◌≡◌, ℕ, suc, ◌+◌, ◌<◌, ◌≤◌, eqb, leb, List, [], ◌∷◌, length, Some, None, Ok, Err, Option, sym, refl, ap, ◌∙◌, inl, inr, arith}
-use Rattle.std.specs.Option.{option_map}
-use Rattle.std.proofs.lemmas.Bool.{cases_Bool, le-leb, lt-leb, eq-eqb, eqb-true, eqb-false, cond-true as cond_yes, cond-false as cond_no}
-use Rattle.rings.specs.Slots.{last}
-use Rattle.row.specs.declared.frame.Mark.{Mark}
-use Rattle.row.specs.Entries.{Entry, RowModel, Lawful, find_entry, without, holding, front, start, full, leaving, left, bytes_or as contents}
-use Rattle.tier.specs.declared.faults.DemoteFault.TheVariants.{Length as OfLength, Dropped as OfDropped}
-use Rattle.tier.specs.declared.faults.Dropped.{Dropped}
-use Rattle.tier.specs.Demotions.{kept, fallen, over, passed, demoted, raised}
+use Rattle.std.proofs.Common.{◌≡◌, ℕ, suc, ◌<◌, ◌≤◌, eqb, List, [], ◌∷◌, length, Some, None, sym, refl, ap, ◌∙◌, inl, inr, arith}
+use Rattle.std.proofs.lemmas.Bool.{cases_Bool, eqb-true, eqb-false, cond-false as cond_no}
+use Rattle.row.specs.Entries.{Entry, RowModel, Lawful, find_entry, without, holding, front, start, full, left}
 use Rattle.tier.specs.Levels.{level_model, lost_in}
-use Rattle.tier.specs.Lifts.{Found, found, deeper, or_below, label_of, lifted_deeper, deeper_answer, lift_answer, lift_buffer, lift_after, lose_or_below, lifted, bytes_or}
+use Rattle.tier.specs.Lifts.{lift_after, lose_or_below, lifted}
 use Rattle.tier.specs.Models.{Model}
-use Rattle.tier.specs.Questions.{told}
-use Rattle.tier.specs.declared.victim.Victim.{Victim}
-use Rattle.tier.specs.Refusals.{raised_answer, dropped_answer, demote_answer}
-use Rattle.tier.specs.Tiers.{entry_of_victim, victim_of, demotion, demote_after, model_of}
 
 pub find_without : (b : ℕ) (es : List Entry) → find_entry b (without b es) ≡ None
 find_without b [] = refl
@@ -66,34 +56,6 @@ module _ (m : RowModel) (some : 1 ≤ m.capacity) (short : length m.entries ≤ 
   left_capacity : (left m).capacity ≡ m.capacity
   left_capacity = elim (cases_Bool (full m)) [ inl k ↦ rw k | inr k ↦ rw k ]
 
-  -- what stays and what falls of the row with one more in front
-  module _ (e : Entry) where
-    stays : kept m.capacity (e ∷ m.entries) ≡ e ∷ (left m).entries
-    stays = elim (cases_Bool (full m)) [
-      | inl h ↦ rw h (cut m.entries refl (eqb-true (length m.entries) m.capacity h))
-      | inr h ↦ rw h (cond_yes (leb (length (e ∷ m.entries)) m.capacity) (e ∷ m.entries) (front (e ∷ m.entries)) (le-leb (length (e ∷ m.entries)) m.capacity (grown (eqb-false (length m.entries) m.capacity h))))
-    ]
-      where
-        grown : (length m.entries ≡ m.capacity → ⊥) → length (e ∷ m.entries) ≤ m.capacity
-        grown n = grind arith
-
-        cut : (es : List Entry) → m.entries ≡ es → length m.entries ≡ m.capacity → kept m.capacity (e ∷ m.entries) ≡ e ∷ front m.entries
-        cut [] q l = absurd (omega (arith, ap length q))
-        cut (x ∷ xs) q l = cond_no (leb (length (e ∷ m.entries)) m.capacity) (e ∷ m.entries) (front (e ∷ m.entries)) (lt-leb (length (e ∷ m.entries)) m.capacity (omega arith)) ∙ (ap (λ ys. front (e ∷ ys)) q ∙ ap (λ ys. e ∷ front ys) (sym q))
-
-    falls : fallen m.capacity (e ∷ m.entries) ≡ leaving m
-    falls = elim (cases_Bool (full m)) [
-      | inl h ↦ rw h (cut m.entries refl (eqb-true (length m.entries) m.capacity h))
-      | inr h ↦ rw h (cond_yes (leb (length (e ∷ m.entries)) m.capacity) None (last (e ∷ m.entries)) (le-leb (length (e ∷ m.entries)) m.capacity (grown (eqb-false (length m.entries) m.capacity h))))
-    ]
-      where
-        grown : (length m.entries ≡ m.capacity → ⊥) → length (e ∷ m.entries) ≤ m.capacity
-        grown n = grind arith
-
-        cut : (es : List Entry) → m.entries ≡ es → length m.entries ≡ m.capacity → fallen m.capacity (e ∷ m.entries) ≡ last m.entries
-        cut [] q l = absurd (omega (arith, ap length q))
-        cut (x ∷ xs) q l = cond_no (leb (length (e ∷ m.entries)) m.capacity) None (last (e ∷ m.entries)) (lt-leb (length (e ∷ m.entries)) m.capacity (omega arith)) ∙ (ap (λ ys. last (e ∷ ys)) q ∙ ap last (sym q))
-
 module _ (r : RowModel) (l : Lawful r) (b : ℕ) where
   lost_short : length (lost_in b r).entries ≤ (lost_in b r).capacity
   lost_short = omega (arith, length_less b r.entries, l.room)
@@ -104,91 +66,9 @@ module _ (r : RowModel) (l : Lawful r) (b : ℕ) where
   pub none_left : find_entry b (left (lost_in b r)).entries ≡ None
   none_left = left_fresh (lost_in b r) l.some lost_short b (find_without b r.entries)
 
--- an entry demoted into a level, by what has to leave its row
-module _ (r : RowModel) (l : Lawful r) (m : Model) (e : Entry) where
-  new_row : RowModel
-  new_row = holding (e ∷ (left (lost_in e.number r)).entries) (left (lost_in e.number r))
-
-  taken : demoted (r ∷ m.rows) m.store e ≡ over (holding (e ∷ (left (lost_in e.number r)).entries) (left (lost_in e.number r)))
-      (passed (leaving (lost_in e.number r)) (λ v. demoted m.rows m.store v) m.rows m.store)
-  taken =
-      let c = left_capacity (lost_in e.number r) l.some (lost_short r l e.number) in
-      let k = stays (lost_in e.number r) l.some (lost_short r l e.number) e in
-      let f = falls (lost_in e.number r) l.some (lost_short r l e.number) e in
-      λ i. over record { capacity = sym c i; entries = k i } (passed (f i) (λ v. demoted m.rows m.store v) m.rows m.store)
-
-  pub taken_room : leaving (lost_in e.number r) ≡ None
-      → demoted (r ∷ m.rows) m.store e ≡ record { rows = holding (e ∷ (left (lost_in e.number r)).entries) (left (lost_in e.number r)) ∷ m.rows; store = m.store; dropped = None }
-  taken_room h = taken ∙ ap (λ o. over (holding (e ∷ (left (lost_in e.number r)).entries) (left (lost_in e.number r))) (passed o (λ v. demoted m.rows m.store v) m.rows m.store)) h
-
-  pub taken_full : (w : Entry) → leaving (lost_in e.number r) ≡ Some w
-      → demoted (r ∷ m.rows) m.store e ≡ over (holding (e ∷ (left (lost_in e.number r)).entries) (left (lost_in e.number r))) (demoted m.rows m.store w)
-  taken_full w h = taken ∙ ap (λ o. over (holding (e ∷ (left (lost_in e.number r)).entries) (left (lost_in e.number r))) (passed o (λ v. demoted m.rows m.store v) m.rows m.store)) h
-
-told_more : (n : ℕ) → told (told n + 1) ≡ told (n + 1)
-told_more n = omega arith
-
-pub raised_dropped : (o : Option Dropped) → raised_answer (dropped_answer o) ≡ dropped_answer (option_map raised o)
-raised_dropped None = refl
-raised_dropped (Some d) = ap (λ n. Err (OfDropped record { block = d.block; fault = d.fault; level = n })) (told_more d.level)
-
 -- lifting what the row does not have
 module _ (r : RowModel) (m : Model) (b : ℕ) (none : find_entry b r.entries ≡ None) where
-  deep_label : (o : Option Found) → option_map lifted_deeper (option_map label_of o) ≡ option_map label_of (option_map deeper o)
-  deep_label None = refl
-  deep_label (Some f) = ap (λ n. Some record { level = n; mark = f.entry.mark }) (told_more f.level)
-
-  pub below_answer : (len : ℕ) → deeper_answer (lift_answer m b len) ≡ lift_answer (level_model r m) b len
-  below_answer len = elim (cases_Bool (eqb len 256)) [ inl h ↦ rw h (ap Ok (deep_label (found b m.rows) ∙ ap (λ o. option_map label_of (or_below o (found b m.rows))) (sym none))) | inr h ↦ rw h ]
-
-  deep_bytes : (o : Option Found) (buffer : List ℕ) → bytes_or o buffer ≡ bytes_or (option_map deeper o) buffer
-  deep_bytes None buffer = refl
-  deep_bytes (Some f) buffer = refl
-
-  pub below_buffer : (buffer : List ℕ) → lift_buffer m b buffer ≡ lift_buffer (level_model r m) b buffer
-  below_buffer buffer = elim (cases_Bool (eqb (length buffer) 256)) [ inl h ↦ rw h (deep_bytes (found b m.rows) buffer ∙ ap (λ o. bytes_or (or_below o (found b m.rows)) buffer) (sym none)) | inr h ↦ rw h ]
-
   pub below_after : (len : ℕ) → level_model (lost_in b r) (lift_after m b len) ≡ lift_after (level_model r m) b len
   below_after len =
       ap (λ xs. level_model (holding xs r) (lift_after m b len)) (without_none b r.entries none)
       ∙ elim (cases_Bool (eqb len 256)) [ inl h ↦ rw h (ap (λ o. record { store = m.store; rows = lose_or_below o b r m.rows (lifted b m.rows) }) (sym none)) | inr h ↦ rw h ]
-
--- the same, as a level does it: the block's number and mark are n and k, x is the row when room is made, row' the row with the entry in front
-module _ (r : RowModel) (l : Lawful r) (m : Model) (v : Victim) (bytes : List ℕ) (n : ℕ) (k : Mark) (q : ◌≡◌ {A = ℕ × Mark} (n, k) (v.number, v.mark))
-    (x row' : RowModel) (made : x ≡ left (lost_in n r)) (put : row' ≡ holding (record { number = n; bytes = bytes; mark = k } ∷ x.entries) x) where
-  same_number : n ≡ v.number
-  same_number = ap (λ p. p.0) q
-
-  made_row : row' ≡ holding (entry_of_victim v bytes ∷ (left (lost_in v.number r)).entries) (left (lost_in v.number r))
-  made_row =
-      put ∙ (ap (λ y. holding (record { number = n; bytes = bytes; mark = k } ∷ y.entries) y) made
-      ∙ (ap (λ p. holding (record { number = p.0; bytes = bytes; mark = p.1 } ∷ (left (lost_in n r)).entries) (left (lost_in n r))) q
-      ∙ ap (λ p. holding (entry_of_victim v bytes ∷ (left (lost_in p r)).entries) (left (lost_in p r))) same_number))
-
-  unmapped_none : (o : Option Entry) → ◌≡◌ {A = Option Victim} None (option_map victim_of o) → o ≡ None
-  unmapped_none None h = refl
-  unmapped_none (Some e) h = absurd (let z : ◌≡◌ {A = ℕ} 0 1 = cc in omega arith)
-
-  pub took_room : ◌≡◌ {A = Option Victim} None (option_map victim_of (leaving (lost_in n r))) → demotion (level_model r m) v bytes ≡ record { rows = row' ∷ m.rows; store = m.store; dropped = None }
-  took_room h =
-      taken_room r l m (entry_of_victim v bytes) (ap (λ p. leaving (lost_in p r)) (sym same_number) ∙ unmapped_none (leaving (lost_in n r)) h)
-      ∙ ap (λ y. record { rows = y ∷ m.rows; store = m.store; dropped = None }) (sym made_row)
-
-  pub took_full : (w : Victim) (buf start : List ℕ) → ◌≡◌ (Some w) (option_map victim_of (leaving (lost_in n r))) → buf ≡ contents (leaving (lost_in n r)) start
-      → demotion (level_model r m) v bytes ≡ over row' (demotion m w buf)
-  took_full w buf begun h b = go (leaving (lost_in n r)) refl
-    where
-      go : (o : Option Entry) → leaving (lost_in n r) ≡ o → demotion (level_model r m) v bytes ≡ over row' (demotion m w buf)
-      go None e = absurd (let y : ◌≡◌ (Some w) None = h ∙ ap (λ t. option_map victim_of t) e in let z : ◌≡◌ {A = ℕ} 0 1 = cc in omega arith)
-      go (Some u) e =
-          let y : ◌≡◌ (Some w) (Some (victim_of u)) = h ∙ ap (λ t. option_map victim_of t) e in
-          let w_is : w ≡ victim_of u = cc in
-          let b_is : buf ≡ u.bytes = b ∙ ap (λ t. contents t begun) e in
-          taken_full r l m (entry_of_victim v bytes) u (ap (λ p. leaving (lost_in p r)) (sym same_number) ∙ e)
-          ∙ (λ i. over (sym made_row i) (demoted m.rows m.store (entry_of_victim (sym w_is i) (sym b_is i))))
-
-pub handed_answer : (w : Victim) (len : ℕ) (d : Option Dropped) → len ≡ 256 → raised_answer (demote_answer w len d) ≡ dropped_answer (option_map raised d)
-handed_answer w len d h = ap raised_answer (cond_yes (eqb len 256) (dropped_answer d) (Err (OfLength w)) (eq-eqb len 256 h)) ∙ raised_dropped d
-
-pub handed_after : (m : Model) (w : Victim) (buf : List ℕ) → length buf ≡ 256 → demote_after m w buf ≡ model_of (demotion m w buf)
-handed_after m w buf h = cond_yes (eqb (length buf) 256) (model_of (demotion m w buf)) m (eq-eqb (length buf) 256 h)

@@ -1,6 +1,6 @@
 -- One row synced from its front, one entry after another.
 use Rattle.std.proofs.Common.{◌≡◌, ℕ, true, false, List, ◌∷◌, ◌++◌, length, Some, Ok, Err, Result, sym, refl, ap, ◌∙◌, inl, inr, arith}
-use Rattle.std.proofs.lemmas.Bool.{cases_Bool, true≢false, cond-true as cond_yes, cond-false as cond_no}
+use Rattle.std.proofs.lemmas.Bool.{cases_Bool, true≢false, cond-false as cond_no}
 use Rattle.device.specs.declared.fault.DeviceFault.{DeviceFault}
 use Rattle.device.specs.Answers.{answer, written}
 use Rattle.device.specs.Store.{Store, put}
@@ -19,20 +19,6 @@ saved_mark Unsaved h = absurd (true≢false (sym h))
 
 pub saved_same : (e : Entry) → is_saved e.mark ≡ true → e ≡ saved_copy e
 saved_same e h = λ i. record { number = e.number; bytes = e.bytes; mark = saved_mark e.mark h i }
-
-pub saved_skips : (s : Store) (e : Entry) → is_saved e.mark ≡ true → ◌≡◌ (Ok tt) (save_answer s e)
-saved_skips s e h = sym (cond_yes (is_saved e.mark) (Ok tt) (saved_answer e.number (answer s e.number (length e.bytes))) h)
-
-pub saved_model : (m : Model) (e : Entry) → is_saved e.mark ≡ true → m ≡ save_model m e
-saved_model m e h = sym (cond_yes (is_saved e.mark) m record { store = written m.store e.number e.bytes; rows = m.rows } h)
-
-pub refused_answer : (s : Store) (e : Entry) (f : DeviceFault) → is_saved e.mark ≡ false → answer s e.number (length e.bytes) ≡ Err f
-    → ◌≡◌ (Err record { block = e.number; fault = f; level = 1 }) (save_answer s e)
-refused_answer s e f h k =
-    sym (cond_no (is_saved e.mark) (Ok tt) (saved_answer e.number (answer s e.number (length e.bytes))) h ∙ ap (λ r. saved_answer e.number r) k)
-
-pub refused_model : (m : Model) (e : Entry) → is_saved e.mark ≡ false → record { store = written m.store e.number e.bytes; rows = m.rows } ≡ save_model m e
-refused_model m e h = sym (cond_no (is_saved e.mark) m record { store = written m.store e.number e.bytes; rows = m.rows } h)
 
 -- some entries before what a sweep leaves
 abbrev pub preceded : List Entry → Swept → Swept

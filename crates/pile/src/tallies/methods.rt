@@ -13,6 +13,7 @@ fn sum(hits: &[u32]) -> u64
     ensures all { result ≡ total hits.now }
     ensures few { result ≤ 34359738360 }
 {
+    // A loop, and no `sum`: that the total is small is known item by item.
     let mut all = 0;
     for n in hits {
         all += u64::from(*n);
@@ -21,10 +22,17 @@ fn sum(hits: &[u32]) -> u64
 }
 
 // The hits at a place counted from 0.
-fn hits_at(hits: &[u32], place: usize) -> Option<u32>
+fn hits_from_zero(hits: &[u32], place: usize) -> Option<u32>
     ensures { result ≡ slice_get hits.now place }
 {
     hits.get(place).copied()
+}
+
+// The hits at a place counted from 1.
+fn hits_at(hits: &[u32], level: usize) -> Option<u32>
+    ensures { result ≡ nth hits.now level }
+{
+    hits_from_zero(hits, level.checked_sub(1)?)
 }
 
 impl Tallies {
@@ -59,7 +67,7 @@ impl Tallies {
     pub fn hits(&self, level: usize) -> Option<u32>
         ensures { result ≡ nth (served self.now) level }
     {
-        hits_at(self.by_level(), level.checked_sub(1)?)
+        hits_at(self.by_level(), level)
     }
 
     // How many touches no level served.
