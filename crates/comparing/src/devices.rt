@@ -1,5 +1,5 @@
 // The devices of two layouts, under their sheets' defects and levels.
-ghost use Rattle.std.specs.Prelude.{◌≡◌, IfOk};
+ghost use Rattle.std.specs.Prelude.{◌≡◌, MatchResult};
 ghost use Rattle.std.specs.Vec.{vec_items as items};
 ghost use Rattle.comparing.specs.Sheets.{Weighed};
 ghost use Rattle.comparing.specs.Sides.{SidesWeighed};
@@ -14,16 +14,16 @@ use device::Device;
 use formats::Sheet;
 use layers::DefectList;
 use replaying::list_defects;
-use std::alloc::{AllocError, Global};
+use std::alloc::Global;
 use tier::Floor;
 
 // A device under a list of defects.
-fn list_of<D: Drop>(heap: Global, device: D, defects: &[u16]) -> Result<DefectList<D>, AllocError>
+fn list_of<D: Drop>(heap: Global, device: D, defects: &[u16]) -> Result<DefectList<D>, LayoutFault>
     requires { Rising defects.now }
-    ensures { IfOk result (λ l. (l.below ≡ device) × (items l.numbers ≡ defects.now)) }
+    ensures { MatchResult result (λ l. (l.below ≡ device) × (items l.numbers ≡ defects.now)) (λ f. f ≡ LayoutFault.Memory) }
 {
     let mut list = DefectList::new(heap, device);
-    list_defects(&mut list, defects)?;
+    list_defects(&mut list, defects).map_err(|_| LayoutFault::Memory)?;
     Ok(list)
 }
 

@@ -1,6 +1,6 @@
 // The device that a sheet lists over its images, and the run of a trace on it.
 // Each layer is made by one small function over any device, so that what the slices hold at the end is known.
-ghost use Rattle.std.specs.Prelude.{◌≡◌, ◌≤◌, [], OnOk};
+ghost use Rattle.std.specs.Prelude.{◌≡◌, ◌≤◌, [], MatchResult};
 ghost use Rattle.std.specs.Vec.{vec_items as items};
 ghost use Rattle.device.specs.Bytes.{of_bytes as seen};
 ghost use Rattle.formats.specs.Seen.{listed};
@@ -18,23 +18,24 @@ use crate::running::Outcome;
 use device::{Device, Image};
 use formats::Images;
 use layers::{DefectFault, DefectList, Stripe, Unit};
-use std::alloc::{AllocError, Global};
+use std::alloc::Global;
 
 // Numbers that rise and are few are refused for want of memory alone.
-fn want_of_memory(fault: DefectFault) -> AllocError
+fn want_of_memory(fault: DefectFault) -> ReplayFault
     requires { fault ≡ DefectFault.Memory }
+    ensures { result ≡ ReplayFault.Memory }
 {
     match fault {
-        DefectFault::Memory => AllocError,
+        DefectFault::Memory => ReplayFault::Memory,
         DefectFault::NotGreater | DefectFault::Full => unreachable(),
     }
 }
 
 // Lists the defects of a sheet on an empty list. They rise and are few, so only memory can be wanting.
-pub fn list_defects<D>(list: &mut DefectList<D>, defects: &[u16]) -> Result<(), AllocError>
+pub fn list_defects<D>(list: &mut DefectList<D>, defects: &[u16]) -> Result<(), ReplayFault>
     requires empty { items list.old.numbers ≡ [] }
     requires rising { Rising defects.now }
-    ensures numbers { OnOk result (items list.new.numbers ≡ defects.now) }
+    ensures numbers { MatchResult result (λ _. items list.new.numbers ≡ defects.now) (λ f. f ≡ ReplayFault.Memory) }
     ensures below { list.new.below ≡ list.old.below }
 {
     for n in defects {
