@@ -1,6 +1,5 @@
 -- What a comparison says of devices it says of equal ones.
 use Rattle.std.proofs.Common.{◌≡◌, ℕ, true, cond, List, Err, Result, sym, ap, ◌∙◌, subst}
-use Rattle.tier.specs.Models.{Model}
 use Rattle.certificate.specs.declared.weighing.Comparison.{Comparison}
 use Rattle.device.specs.Store.{Store}
 use Rattle.layers.specs.Defects.{masked}
