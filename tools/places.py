@@ -6,17 +6,19 @@ usage: tools/places.py [POINT]     a line for each place, and how many there are
 The points are those of docs/DESIGN-PASS.md. What is found is a candidate: that page says of each what became of it.
 """
 import collections
+import difflib
 import glob
 import re
 import sys
 
 
 class Function:
-    """A function of a source file: its name, parameters, contract and body."""
+    """A function of a source file: its name, parameters, contract and body, and whether a trait asks for it."""
 
-    def __init__(self, path, line, name, params, result, clauses, body):
+    def __init__(self, path, line, name, params, result, clauses, body, of_trait):
         self.path, self.line, self.name = path, line, name
         self.params, self.result, self.clauses, self.body = params, result, clauses, body
+        self.of_trait = of_trait
 
     def place(self):
         return f"{self.path}:{self.line} {self.name}"
@@ -65,7 +67,9 @@ def functions():
             rest = re.compile(r"\s*\{").match(text, i) if clauses else re.compile(r"[^{;]*\{").match(text, i)
             body = text[rest.end() : close(text, rest.end() - 1, "{", "}") - 1] if rest else ""
             line = text.count("\n", 0, found.start()) + 1
-            yield Function(path, line, found.group(1), params, result, clauses, body)
+            blocks = [b.group(0) for b in re.finditer(r"^(impl|trait|pub trait)\b[^{]*", text[: found.start()], re.M)]
+            of_trait = found.group(0).startswith(" ") and bool(blocks) and (" for " in blocks[-1] or "trait" in blocks[-1])
+            yield Function(path, line, found.group(1), params, result, clauses, body, of_trait)
 
 
 def lines(pattern):
@@ -97,29 +101,33 @@ def shape(body):
     return " ".join(text.split())
 
 
+def alike(one, other):
+    """Whether two bodies are the same but for types, names by number and constants, or nearly so."""
+    return difflib.SequenceMatcher(None, one.split(), other.split()).ratio() >= 0.8
+
+
 def point2():
-    """Functions of the same body but for types, names by number and constants, and of the same name in several places."""
+    """Functions, in no impl of a trait, that have the same name or names by number, and bodies that are nearly the same;
+    and functions of any name whose bodies are the same but for types and constants."""
     by_shape, by_name = collections.defaultdict(list), collections.defaultdict(list)
     for f in functions():
         text = shape(f.body)
+        if f.of_trait or not text or f.name == "main":
+            continue
         if len(text) > 40:
             by_shape[text].append(f)
-        if text and "self" not in f.params.split(",")[0] and f.name != "main":
-            by_name[f.name].append(f)
-        numbered = re.sub(r"_(one|two|three|four)$", "_k", f.name)
-        if numbered != f.name:
-            by_name[numbered].append(f)
-    named = collections.defaultdict(list)
-    for f in functions():
-        if f.name == "number" and "match" in f.body:
-            named["number"].append(f)
+        by_name[re.sub(r"_(one|two|three|four)$", "", f.name)].append(f)
     seen = set()
-    for group in list(by_shape.values()) + list(by_name.values()) + list(named.values()):
+    for group in by_shape.values():
         if len(group) > 1:
-            for f in group:
-                if f.place() not in seen:
-                    seen.add(f.place())
-                    yield f.place()
+            seen.update(f.place() for f in group)
+    for group in by_name.values():
+        for i, one in enumerate(group):
+            for other in group[i + 1 :]:
+                same = re.search(r"_(one|two|three|four)$", one.name) and one.name != other.name
+                if same or alike(shape(one.body), shape(other.body)):
+                    seen.update((one.place(), other.place()))
+    yield from sorted(seen)
 
 
 def point3():
@@ -194,7 +202,8 @@ def main():
     points = [point1, point2, point3, point4, point5, point6, point7, point8]
     if len(sys.argv) > 1:
         found = list(points[int(sys.argv[1]) - 1]())
-        print("\n".join(found))
+        for place in found:
+            print(place)
         print(f"point {sys.argv[1]}: {len(found)}")
         return
     for n, point in enumerate(points, 1):

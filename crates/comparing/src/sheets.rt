@@ -49,7 +49,8 @@ fn compare_stripes<D: Device, E: Device, F: Device, G: Device>(
     compare_listed(heap, one, first, other, second)
 }
 
-// The first layout over two striped images, the second over two others.
+// The first layout over two striped images, the second over two others. The slices are lent one by one, since a function with
+// two lent slices in one argument gets no proof.
 fn compare_pairs(
     heap: Global,
     one_first: &mut [u8],

@@ -103,7 +103,7 @@ fn against<F: Device + Drop, S: Device + Drop>(
     print_compared(rt, first_of(2, &first), first_of(1, &second))
 }
 
-// The same, with the reads that tell them apart.
+// The same, with the reads that tell them apart. The tiers are played on and not lent, so that the two calls share no more.
 fn told_apart<F: Device + Drop, S: Device + Drop>(
     rt: &HostRuntime,
     first: F,

@@ -37,6 +37,7 @@ fn all_refusals<T: Tier>(rt: &HostRuntime, pile: &mut Pile<T>) -> anyhow::Result
     print_tallies(rt, pile)
 }
 
+// A frame of its own: `play` prints the rows of the tier at the end, and this one has none to print.
 fn over<T: Tier + Drop>(rt: &HostRuntime, tier: T) -> anyhow::Result<()> {
     match Pile::mount(tier) {
         Ok(mut pile) => {

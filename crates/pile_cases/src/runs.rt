@@ -19,6 +19,7 @@ fn touches<T: Tier + Drop>(rt: &HostRuntime, tier: T) -> anyhow::Result<()> {
     play(rt, tier, &calls)
 }
 
+// One function for each layout, over any device: a call at levels that stand on a lent image gets no proof.
 fn over_two<D: Device + Drop>(
     rt: &HostRuntime,
     upper: u32,

@@ -45,7 +45,8 @@ impl<'a> Reader<'a> {
         Ok(*byte)
     }
 
-    // One number of two bytes, high byte first, not below `least`.
+    // One number of two bytes, high byte first, not below `least`. It shares with a byte only the cut and the offset: a byte is
+    // bounded on both sides, and a function for both lengths would have to narrow what it read.
     pub fn number_from(&mut self, least: u32) -> Result<u16, SheetFault>
         ensures read { read result self.new ≡ from self.old.total least self.old.rest.now }
         ensures total { self.new.total ≡ self.old.total }
