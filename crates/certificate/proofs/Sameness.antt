@@ -1,26 +1,12 @@
 -- Comparing two devices block by block.
-use Rattle.std.proofs.Common.{◌≡◌, ℕ, zero, suc, ◌<◌, Bool, true, false, eqb, List, Ok, Decides, sym, refl, ◌∙◌, subst, inl, inr, arith}
+use Rattle.std.proofs.Common.{◌≡◌, ℕ, zero, suc, ◌<◌, true, false, eqb, sym, refl, ◌∙◌, subst, inl, inr, arith}
 use Rattle.std.specs.Str.{bytes_eq}
 use Rattle.std.proofs.lemmas.Slice.Eq.{bytes_eq-Decides}
-use Rattle.std.proofs.lemmas.Bool.{cases_Bool, cases_lt, and_parts, and_from, eqb-true, eq-eqb, not-true, true≢false}
-use Rattle.device.specs.Answers.{answer}
+use Rattle.std.proofs.lemmas.Bool.{cases_Bool, cases_lt, and_parts, and_from, eqb-true, eq-eqb, not-true}
 use Rattle.device.specs.Below.{all_below}
 use Rattle.device.specs.Store.{Store, Lawful, ReadAlike}
 use Rattle.device.proofs.Below.{all_at}
-use Rattle.device.proofs.Outcomes.{admitted as passed}
 use Rattle.certificate.specs.Devices.{same_block, same_devices}
-
-same_decisions : (r t : Bool) (P : Type 0) → Decides r P → Decides t P → r ≡ t
-same_decisions true t P d e = sym (e.1 (d.0 refl))
-same_decisions false true P d e = absurd (true≢false (sym (d.1 (e.0 refl))))
-same_decisions false false P d e = refl
-
--- both blocks were read
-pub both_read : (s t : Store) (b : ℕ) (x y : List ℕ) (r : Bool) → s.sound b ≡ true → answer t b 256 ≡ Ok tt → x ≡ s.at b → y ≡ t.at b → Decides r (x ≡ y) → r ≡ same_block s t b
-both_read s t b x y r h k p q d =
-    let u = (passed t b 256 k).usable in
-    rw (h, u) (same_decisions r (bytes_eq (s.at b) (t.at b)) (x ≡ y) d
-    (λ e. p ∙ ((bytes_eq-Decides (s.at b) (t.at b)).0 e ∙ sym q), λ e. (bytes_eq-Decides (s.at b) (t.at b)).1 (sym p ∙ (e ∙ q))))
 
 module _ (s t : Store) (l : Lawful s) (k : Lawful t) where
   past : (b : ℕ) (u : Store) → Lawful u → u.size ≡ s.size → (b < s.size → ⊥) → u.sound b ≡ false

@@ -1,18 +1,9 @@
 -- Tallies as an array of which a part is used, and as a list.
-use Rattle.std.proofs.Common.{◌≡◌, ℕ, zero, suc, ◌+◌, ◌-◌, ◌<◌, ◌≤◌, List, [], ◌∷◌, length, get_or, slice_get, take, set, None, sym, refl, ap, ◌∙◌, inl, inr, add-one, arith}
+use Rattle.std.proofs.Common.{◌≡◌, ℕ, zero, suc, ◌+◌, ◌-◌, ◌<◌, ◌≤◌, List, [], ◌∷◌, length, get_or, slice_get, take, set, None, sym, refl, ap, ◌∙◌, inl, inr, arith}
 use Rattle.std.proofs.lemmas.Bool.{cases_eq, ne_eqb}
 use Rattle.tier.specs.Questions.{nth, told}
 use Rattle.pile.specs.Piles.{add_at}
 use Rattle.pile.specs.Recency.{total}
-
--- one more element summed
-total_suc : (hs : List ℕ) (i : ℕ) → i < length hs → total (take (suc i) hs) ≡ total (take i hs) + get_or hs i 0
-total_suc [] i h = absurd (omega arith)
-total_suc (x ∷ hs) zero h = omega arith
-total_suc (x ∷ hs) (suc i) h = omega (arith, total_suc hs i (omega arith))
-
-pub total_more : (hs : List ℕ) (i : ℕ) → i < length hs → total (take (i + 1) hs) ≡ total (take i hs) + get_or hs i 0
-total_more hs i h = rw add-one (total_suc hs i h)
 
 -- an element is no more than the sum
 pub within_total : (n : ℕ) (hs : List ℕ) (i : ℕ) → i < n → n ≤ length hs → get_or hs i 0 ≤ total (take n hs)

@@ -195,9 +195,6 @@ empty_packed (r ∷ rs) h = go r.entries refl (λ k. empty_packed rs k)
     go [] e rest = let k : flat rs ≡ [] = ap (λ xs. xs ++ flat rs) (sym e) ∙ h in (omega (arith, ap length e), λ l. k, rest k)
     go (x ∷ xs) e rest = absurd (let g : x ∷ (xs ++ flat rs) ≡ [] = ap (λ ys. ys ++ flat rs) (sym e) ∙ h in let z : ◌≡◌ {A = ℕ} 0 1 = cc in omega arith)
 
-within_none : (n : ℕ) → within n [] ≡ 0
-within_none n = refl
-
 pub mount_kept : (m : Model) → Mountable m → Inv m (mounted m) (bare m.store)
 mount_kept m ok = record {
   packed = empty_packed m.rows ok.empty;

@@ -43,9 +43,6 @@ pub record Left (body rest : List ℕ) (start p : Pile) (refused : ℕ) : Type 0
   pub count : refused + refusals (calls_of rest) p ≡ refusals (calls_of body) start
   pub few : refused + length rest ≤ length body
 
-pub left_all : (body : List ℕ) (p : Pile) → Left body body p p 0
-left_all body p = record { pile = refl; count = omega arith; few = omega arith }
-
 as_number : (b : Bool) → bool_byte b ≡ cond b 1 0
 as_number true = refl
 as_number false = refl

@@ -66,9 +66,6 @@ module _ (s t : Rings) (keys : List ℕ) (x : ℕ) (gone : (q : ℕ) → q < 16 
 pub key_none : (s : Rings) (keys : List ℕ) (x : ℕ) → ((q : ℕ) → q < 16 → ring s q ≡ []) → key_in s keys x ≡ None
 key_none s keys x f = key_is s keys x ∙ rw (f (bucket (get_or keys x 0)) (bucket_few (get_or keys x 0)))
 
-filed_none : (s : Rings) (keys : List ℕ) → ((q : ℕ) → q < 16 → ring s q ≡ []) → Filed s keys
-filed_none s keys f x r (h, m) = absurd (true≢false (sym m ∙ ap (λ zs. member x zs) (f r h)))
-
 -- the slots of a ring are slots
 slot_low : (x : ℕ) (xs : List ℕ) → All (λ y. y < 16) xs → member x xs ≡ true → x < 16
 slot_low x [] a m = absurd (true≢false (sym m))
