@@ -5,20 +5,10 @@
 use anyhow::anyhow;
 use certificate::{Comparison, Verdict};
 use comparing::{ImagePair, LayoutFault, Side, compare_sheets};
-use files::read_some;
+use files::{IMAGE, IMAGE_BYTES, SECOND_IMAGE, SHEET_BYTES, read_some};
 use std::{env, io};
 
 const USAGE: &str = "usage: compare FIRST.sheet SECOND.sheet [LEVELS LEVELS]";
-
-const FIRST: &str = "image.bin";
-
-const SECOND: &str = "image2.bin";
-
-// The most bytes that are read of an image, as `replay` reads them.
-const IMAGE_BYTES: u64 = 32768;
-
-// A sheet has at most 45 bytes, and what follows them is refused at its first byte, so no more are read.
-const SHEET_BYTES: u64 = 64;
 
 // As many levels as a sheet can list: all of them.
 const ALL: u32 = 4;
@@ -63,8 +53,8 @@ fn run(rt: &HostRuntime) -> anyhow::Result<()> {
     let k = levels(words.next())?;
     let one = read_some(rt, one.as_str(), SHEET_BYTES)?;
     let other = read_some(rt, other.as_str(), SHEET_BYTES)?;
-    let image = read_some(rt, FIRST, IMAGE_BYTES)?;
-    let image2 = read_some(rt, SECOND, IMAGE_BYTES)?;
+    let image = read_some(rt, IMAGE, IMAGE_BYTES)?;
+    let image2 = read_some(rt, SECOND_IMAGE, IMAGE_BYTES)?;
     let first = Side {
         sheet: one.as_slice(),
         levels: j,

@@ -1,4 +1,5 @@
-// Plain bytes seen as blocks: what images and archives share.
+// Plain bytes seen as blocks: what images and archives share. Functions over slices, since those two are the types of bytes seen
+// so, and hold slices of two kinds.
 ghost use Rattle.std.specs.Prelude.{◌≡◌, ◌<◌, length};
 ghost use Rattle.device.specs.Answers.{answer, filled, written};
 ghost use Rattle.device.specs.Store.{put};

@@ -8,6 +8,17 @@ use std::fs::{File, OpenOptions};
 use std::io;
 use std::io::{ErrorKind, Read, Write};
 
+// The image that a program works on, and the second one of a stripe.
+pub const IMAGE: &str = "image.bin";
+
+pub const SECOND_IMAGE: &str = "image2.bin";
+
+// The most bytes that are read of an image.
+pub const IMAGE_BYTES: u64 = 32768;
+
+// A sheet has at most 45 bytes, and what follows them is refused at its first byte, so no more are read.
+pub const SHEET_BYTES: u64 = 64;
+
 // The first bytes of a file, up to so many.
 fn read_first(rt: &HostRuntime, path: &str, most: u64) -> io::Result<Vec<u8>> {
     let mut bytes = Vec::new(rt.alloc());

@@ -2,7 +2,7 @@
 ghost use Rattle.std.specs.Vec.{vec_items as items};
 ghost use Rattle.formats.specs.SheetLaws.{Lawful, lawful_once};
 
-// The images of a sheet.
+// The images of a sheet. No `Option` of a unit, of which `None` would not say that there is one image.
 #[derive(Clone, Copy, PartialEq, Eq, Debug)]
 pub enum Images {
     Single,

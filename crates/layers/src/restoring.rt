@@ -36,6 +36,8 @@ impl From<DeviceFault> for RestoreFault {
     }
 }
 
+// A source and a device go from step to step as two: a struct of both would name their types and a lifetime at each step.
+
 // Whether block `b` is sound in both.
 fn both_sound<S: Source, D: Source>(source: &S, device: &D, b: u32) -> bool
     ensures { result ≡ ((S.Source.store source.now).sound b && (D.Source.store device.now).sound b) }

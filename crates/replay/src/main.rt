@@ -3,7 +3,7 @@
 #![tactic(auto)]
 
 use anyhow::anyhow;
-use files::{read_some, write_over};
+use files::{IMAGE, IMAGE_BYTES, SECOND_IMAGE, SHEET_BYTES, read_some, write_over};
 use formats::{Images, Report, SheetFault, read_sheet};
 use replaying::{ReplayFault, Replayed, replay};
 use std::io;
@@ -11,18 +11,8 @@ use std::io::{Read, Write};
 
 const SHEET: &str = "pile.sheet";
 
-const FIRST: &str = "image.bin";
-
-const SECOND: &str = "image2.bin";
-
-// The most bytes that are read of an image.
-const IMAGE_BYTES: u64 = 32768;
-
 // The most bytes that are read of a trace.
 const TRACE_BYTES: u64 = 65536;
-
-// A sheet has at most 45 bytes, and what follows them is refused at its first byte, so no more are read.
-const SHEET_BYTES: u64 = 64;
 
 // A report of four levels has fewer bytes.
 const REPORT_BYTES: usize = 1024;
@@ -45,7 +35,7 @@ fn lists_second(rt: &HostRuntime, sheet: &[u8]) -> anyhow::Result<bool> {
 // The second image's bytes, if the sheet lists it.
 fn read_second(rt: &HostRuntime, sheet: &[u8]) -> anyhow::Result<Vec<u8>> {
     if lists_second(rt, sheet)? {
-        return Ok(read_some(rt, SECOND, IMAGE_BYTES)?);
+        return Ok(read_some(rt, SECOND_IMAGE, IMAGE_BYTES)?);
     }
     Ok(Vec::new(rt.alloc()))
 }
@@ -66,13 +56,13 @@ fn print_report(rt: &HostRuntime, told: &Replayed) -> anyhow::Result<()> {
 
 fn run(rt: &HostRuntime) -> anyhow::Result<()> {
     let sheet = read_some(rt, SHEET, SHEET_BYTES)?;
-    let mut first = read_some(rt, FIRST, IMAGE_BYTES)?;
+    let mut first = read_some(rt, IMAGE, IMAGE_BYTES)?;
     let mut second = read_second(rt, &sheet)?;
     let trace = read_trace(rt)?;
     match replay(rt.alloc(), &sheet, &mut first, &mut second, &trace) {
         Ok(told) => {
-            write_over(rt, FIRST, &first)?;
-            write_over(rt, SECOND, &second)?;
+            write_over(rt, IMAGE, &first)?;
+            write_over(rt, SECOND_IMAGE, &second)?;
             print_report(rt, &told)
         }
         Err(ReplayFault::Memory) => Err(ReplayFault::Memory.into()),

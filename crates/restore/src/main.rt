@@ -2,15 +2,13 @@
 #![tactic(auto)]
 
 use device::{Archive, Image, Source};
-use files::{read_all, write_over};
+use files::{IMAGE, read_all, write_over};
 use layers::RestoreFault;
 use refusal::Refusal;
 use restoring::restore_image;
 use std::io;
 
 const ARCHIVE: &str = "archive.bin";
-
-const IMAGE: &str = "image.bin";
 
 // Prints what came of it.
 fn record(rt: &HostRuntime, outcome: Result<u32, RestoreFault>) -> io::Result<()> {

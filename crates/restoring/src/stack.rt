@@ -129,7 +129,8 @@ fn restore_striped<S: Source, D: Device, E: Device>(
     restore_listed(heap, source, &mut stripe, how.defects)
 }
 
-// Restores an archive onto two images, striped; each still stands over the slice that it stood over.
+// Restores an archive onto two images, striped; each still stands over the slice that it stood over. Two and no struct of them,
+// since a clause says of each what it holds at the end.
 fn restore_devices(
     heap: Global,
     source: &Archive,

@@ -3,7 +3,8 @@ ghost use Rattle.std.specs.Prelude.{◌≡◌, ◌<◌, length, slice_index};
 ghost use Rattle.rings.specs.Links.{out_links as outside, in_links as between};
 ghost use Rattle.rings.specs.Places.{nexts, prevs};
 
-// What stands behind a place, and what before it.
+// What stands behind a place, and what before it. A place is a plain index of the array: a type for it would be made of a slot or
+// a ring, and taken apart again, at each use.
 #[derive(Clone, Copy)]
 pub struct Link {
     pub next: usize,

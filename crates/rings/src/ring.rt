@@ -4,7 +4,7 @@ ghost use Rattle.std.specs.Prelude.{◌≡◌, ◌+◌, ◌/◌, ◌^◌, ◌<�
 use crate::slot::SLOTS;
 use std::marker::Model;
 
-// One of the sixteen rings.
+// One of the sixteen rings. A type of its own beside `Slot`, so that neither is taken for the other.
 #[derive(Clone, Copy, PartialEq, Eq, Debug)]
 pub struct Ring {
     number: usize,

@@ -3,7 +3,7 @@ ghost use Rattle.std.specs.Prelude.{◌≡◌};
 
 use row::Mark;
 
-// The number and mark of a block in hand, whose bytes lie in a buffer beside it. It cannot be forgotten or used twice:
+// The number and mark of a block in hand, whose bytes lie in a buffer beside it and are not moved with it. It cannot be forgotten or used twice:
 // it is spent by handing it to `demote`.
 pub struct Victim {
     number: u32,

@@ -30,7 +30,8 @@ impl Row {
         self.shelf.find(number)
     }
 
-    // The number and the mark of the entry in a slot.
+    // The number and the mark of the entry in a slot. That an entry stands there is asked and no part of the slot's type, since the
+    // row changes while slots stay what they are.
     pub fn tag(&self, slot: Slot) -> Tag
         requires { Stands self.now slot }
         ensures { result ≡ told (held self.now slot) }
