@@ -39,12 +39,12 @@ fn compare_floors<D: Device + Drop, E: Device + Drop>(
 {
     let first = Stack {
         tier: Floor::new(one),
-        capacities: &first.sheet.levels,
+        sheet: first.sheet,
         levels: first.levels,
     };
     let second = Stack {
         tier: Floor::new(other),
-        capacities: &second.sheet.levels,
+        sheet: second.sheet,
         levels: second.levels,
     };
     Ok(compare_levels(heap, first, second)?)

@@ -1,18 +1,19 @@
 // Levels of given capacities over two tiers, compared.
+ghost use Rattle.std.specs.Vec.{vec_items as items};
 ghost use Rattle.comparing.specs.Levels.{Compared};
-ghost use Rattle.replaying.specs.Bounds.{Capacities};
 ghost use Rattle.replaying.specs.Outcomes.{stacked};
 
 use certificate::{CompareFault, Comparison, Layout, compare};
+use formats::Sheet;
 use replaying::{Done, Work, on_levels};
 use std::alloc::Global;
 use tier::Tier;
 
-// Levels of these capacities over a tier, the first one on top, of which the first so many are compared.
+// A tier, and the sheet whose levels are put over it, of which the first so many are compared.
 #[derive(Drop)]
 pub struct Stack<'a, T> {
     pub tier: T,
-    pub capacities: &'a [u8],
+    pub sheet: &'a Sheet,
     pub levels: u32,
 }
 
@@ -51,9 +52,9 @@ struct Across<'a, S> {
 impl<S: Tier + Drop> Work for Across<'_, S> {
     type Told = Result<Comparison, CompareFault>;
 
-    ghost needs = { λ a _. Capacities a.second.capacities.now };
+    ghost needs = { λ _ _. Unit {0} };
 
-    ghost gives = { λ a m told _. Compared m a.levels (stacked a.second.capacities.now (S.Tier.model a.second.tier)) a.second.levels told };
+    ghost gives = { λ a m told _. Compared m a.levels (stacked (items a.second.sheet.now.levels) (S.Tier.model a.second.tier)) a.second.levels told };
 
     fn on<T: Tier>(self, tier: T) -> Done<T, Result<Comparison, CompareFault>> {
         let Across {
@@ -70,26 +71,24 @@ impl<S: Tier + Drop> Work for Across<'_, S> {
             first,
             levels: second.levels,
         };
-        let Done { told, .. } = on_levels(second.tier, second.capacities, beside);
+        let Done { told, .. } = on_levels(second.tier, &second.sheet.levels, beside);
         Done { tier, told }
     }
 }
 
-// Compares levels of given capacities over two tiers.
+// Compares the levels of two sheets over two tiers.
 pub fn compare_levels<F: Tier + Drop, S: Tier + Drop>(
     heap: Global,
     first: Stack<F>,
     second: Stack<S>,
 ) -> Result<Comparison, CompareFault>
-    requires first { Capacities first.capacities.now }
-    requires second { Capacities second.capacities.now }
-    ensures { Compared (stacked first.entry.capacities.now (F.Tier.model first.entry.tier)) first.entry.levels (stacked second.entry.capacities.now (S.Tier.model second.entry.tier)) second.entry.levels result }
+    ensures { Compared (stacked (items first.entry.sheet.now.levels) (F.Tier.model first.entry.tier)) first.entry.levels (stacked (items second.entry.sheet.now.levels) (S.Tier.model second.entry.tier)) second.entry.levels result }
 {
     let across = Across {
         heap,
         levels: first.levels,
         second,
     };
-    let Done { told, .. } = on_levels(first.tier, first.capacities, across);
+    let Done { told, .. } = on_levels(first.tier, &first.sheet.levels, across);
     told
 }

@@ -52,7 +52,7 @@ fn replay_under<D: Device>(list: &mut DefectList<D>, job: Job) -> Result<Outcome
     ensures loans { D.Device.loans list.new.below ≡ D.Device.loans list.old.below }
 {
     list_defects(list, &job.sheet.defects)?;
-    Ok(replay_levels(list, &job.sheet.levels, job.body))
+    Ok(replay_levels(list, job))
 }
 
 // Runs the lines on a device under the sheet's defects and levels.

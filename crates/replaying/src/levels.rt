@@ -1,5 +1,6 @@
 // Running the lines of a trace on levels over a device.
 ghost use Rattle.std.specs.Prelude.{◌≡◌, ◌≤◌, [], ◌∷◌, Ok};
+ghost use Rattle.std.specs.Vec.{vec_items as items};
 ghost use Rattle.pile.specs.Bare.{bare, bare_after};
 ghost use Rattle.pile.specs.Mounts.{mount_answer};
 ghost use Rattle.row.specs.Rows.{model as kept};
@@ -9,6 +10,7 @@ ghost use Rattle.replaying.specs.Layouts.{empty_row, tier_over};
 ghost use Rattle.replaying.specs.Bounds.{Capacities};
 ghost use Rattle.replaying.specs.Outcomes.{Tells, stacked, synced_store};
 
+use crate::job::Job;
 use crate::running::{Outcome, Trace};
 use crate::work::{Done, Under, Work};
 use device::Device;
@@ -47,25 +49,27 @@ pub fn on_levels<T: Tier, W: Work>(tier: T, capacities: &[u8], work: W) -> Done<
     }
 }
 
-// Runs the lines on levels of these capacities over the floor of a device.
-fn replay_floor<D: Device>(device: &mut D, capacities: &[u8], body: &[u8]) -> Outcome
-    requires lawful { Capacities capacities.now }
-    requires mountable { mount_answer (stacked capacities.now (floor_model (D.Source.store device.old))) ≡ Ok tt }
-    ensures told { Tells result (calls_of body.now) (stacked capacities.now (floor_model (D.Source.store device.old))) }
-    ensures after { D.Source.store device.new ≡ synced_store (calls_of body.now) (stacked capacities.now (floor_model (D.Source.store device.old))) }
+// Runs a job's lines on its levels over the floor of a device.
+fn replay_floor<D: Device>(device: &mut D, job: Job) -> Outcome
+    requires { mount_answer (stacked (items job.sheet.now.levels) (floor_model (D.Source.store device.old))) ≡ Ok tt }
+    ensures told { Tells result (calls_of job.entry.body.now) (stacked (items job.entry.sheet.now.levels) (floor_model (D.Source.store device.old))) }
+    ensures after { D.Source.store device.new ≡ synced_store (calls_of job.entry.body.now) (stacked (items job.entry.sheet.now.levels) (floor_model (D.Source.store device.old))) }
     ensures loans { D.Device.loans device.new ≡ D.Device.loans device.old }
 {
-    let Done { tier, told } = on_levels(Floor::new(device), capacities, Trace { body });
+    let Done { tier, told } = on_levels(
+        Floor::new(device),
+        &job.sheet.levels,
+        Trace { body: job.body },
+    );
     let _device = tier.into_device();
     told
 }
 
-// Runs the lines on levels of these capacities over a device. The device then holds what it would hold without them.
-pub fn replay_levels<D: Device>(device: &mut D, capacities: &[u8], body: &[u8]) -> Outcome
-    requires { Capacities capacities.now }
-    ensures told { Tells result (calls_of body.now) (tier_over capacities.now (D.Source.store device.old)) }
-    ensures after { D.Source.store device.new ≡ (bare_after (calls_of body.now) (bare (D.Source.store device.old))).store }
+// Runs a job's lines on its levels over a device. The device then holds what it would hold without them.
+pub fn replay_levels<D: Device>(device: &mut D, job: Job) -> Outcome
+    ensures told { Tells result (calls_of job.entry.body.now) (tier_over (items job.entry.sheet.now.levels) (D.Source.store device.old)) }
+    ensures after { D.Source.store device.new ≡ (bare_after (calls_of job.entry.body.now) (bare (D.Source.store device.old))).store }
     ensures loans { D.Device.loans device.new ≡ D.Device.loans device.old }
 {
-    replay_floor(device, capacities, body)
+    replay_floor(device, job)
 }
