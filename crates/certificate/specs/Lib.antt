@@ -1,3 +1,4 @@
 pub mod Devices
 pub mod Weighings
 pub mod Certificates
+pub mod Faults

@@ -2,6 +2,7 @@
 #![tactic(auto)]
 
 mod devices;
+mod fault;
 mod layout;
 mod reads;
 mod sizes;

@@ -79,7 +79,8 @@ impl<T: Tier> Pile<T> {
         Ok(())
     }
 
-    // Takes block `b` out of the level that has it, and counts the touch for that level, or for the floor.
+    // Takes block `b` out of the level that has it, and counts the touch for that level, or for the floor. Buffers are slices, here
+    // and below, as a tier's are.
     fn lift(&mut self, b: u32, buffer: &mut [u8]) -> Option<Mark>
         requires whole { length buffer.old ≡ 256 }
         requires few { touches (pile T.Tier.model self.old) < 4000000000 }

@@ -4,7 +4,7 @@ use crate::plays::{Call, numbered, one, play, two};
 use certificate::{CompareFault, Comparison, Layout, Verdict, compare};
 use device::{Device, Image};
 use layers::DefectList;
-use refusal::{Refusal, told};
+use refusal::told;
 use std::alloc::{AllocError, Global};
 use tier::Tier;
 
@@ -18,16 +18,6 @@ fn print_verdict(rt: &HostRuntime, verdict: Verdict) -> anyhow::Result<()> {
             }
             println!(rt; "")?;
         }
-    }
-    Ok(())
-}
-
-fn print_fault(rt: &HostRuntime, fault: CompareFault) -> anyhow::Result<()> {
-    match fault {
-        CompareFault::First(fault) => println!(rt; "refused: the first by {}", fault.number())?,
-        CompareFault::Second(fault) => println!(rt; "refused: the second by {}", fault.number())?,
-        CompareFault::Devices => println!(rt; "refused: the devices differ")?,
-        CompareFault::Memory => println!(rt; "refused: no memory")?,
     }
     Ok(())
 }
@@ -55,7 +45,7 @@ fn print_compared<F: Tier, S: Tier>(
             print!(rt; "sums {first} and {second} of {sound} sound blocks")?;
             print_verdict(rt, verdict)
         }
-        Err(fault) => print_fault(rt, fault),
+        Err(fault) => Ok(println!(rt; "refused: {fault}")?),
     }
 }
 

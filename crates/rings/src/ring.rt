@@ -1,5 +1,6 @@
 // The names of rings.
 ghost use Rattle.std.specs.Prelude.{◌≡◌, ◌+◌, ◌/◌, ◌^◌, ◌<◌};
+ghost use Rattle.rings.specs.Links.{slot_at as slotted};
 
 use crate::slot::SLOTS;
 use std::marker::Model;
@@ -27,6 +28,17 @@ impl Ring {
     pub const FIRST: Ring = Ring { number: 0 };
 
     pub const SECOND: Ring = Ring { number: 1 };
+
+    // The ring of a number from 0 to 15.
+    pub fn of(number: usize) -> Option<Ring>
+        ensures { result ≡ slotted number }
+    {
+        (number < SLOTS).then(
+            ||
+                requires { number < 16 }
+            { Ring { number } },
+        )
+    }
 
     // The ring that the top four bits of a number name.
     pub(crate) fn of_top_bits(number: u32) -> Ring

@@ -30,11 +30,11 @@ impl Slot {
     pub(crate) fn at(place: usize) -> Option<Slot>
         ensures { result ≡ slotted place }
     {
-        if place < SLOTS {
-            Some(Slot { index: place })
-        } else {
-            None
-        }
+        (place < SLOTS).then(
+            ||
+                requires { place < 16 }
+            { Slot { index: place } },
+        )
     }
 
     // Every slot, in the order of their numbers.

@@ -6,7 +6,8 @@ ghost use Rattle.row.specs.Shelves.{Listed, Spare, Single, Small};
 use rings::{Index, Rings};
 
 // Sixteen slots, of which some have numbers, all different, and stand in order. Each of these is once in the index and once
-// in ring 0 of the places; all others are in ring 1, which is where a slot for a new number comes from.
+// in ring 0 of the places; all others are in ring 1, which is where a slot for a new number comes from. Their count stands beside
+// the ring, since counting would take a walk.
 #[derive(Drop)]
 pub struct Shelf {
     index: Index,

@@ -1,5 +1,6 @@
 -- The numbers of a tier's refusals, and what a demotion answers.
-use Rattle.std.specs.Prelude.{ℕ, cond, Some, None, Ok, Err, Option, Result, ◌==◌}
+use Rattle.std.specs.Prelude.{ℕ, cond, List, ◌++◌, Some, None, Ok, Err, Option, Result, ◌==◌, codes, decimal}
+use Rattle.device.specs.Refusals.{number_of}
 use Rattle.tier.specs.declared.faults.DemoteFault.{DemoteFault}
 use Rattle.tier.specs.declared.faults.DemoteFault.TheVariants.{Length as OfLength, Dropped as OfDropped}
 use Rattle.tier.specs.declared.faults.Dropped.{Dropped}
@@ -13,6 +14,10 @@ lift_number_of Length = 1
 
 abbrev pub dropped_number_of : Dropped → ℕ
 dropped_number_of d = 5
+
+-- what is printed of it: the block, the refusal inside it, and the level
+abbrev pub dropped_text : Dropped → Option (List ℕ)
+dropped_text d = Some (codes "block " ++ (decimal d.block ++ (codes ", inside " ++ (decimal (number_of d.fault) ++ (codes ", level " ++ decimal d.level)))))
 
 abbrev pub fault_number_of : DemoteFault → ℕ
 fault_number_of (OfLength v) = 1

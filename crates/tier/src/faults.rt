@@ -2,7 +2,7 @@
 ghost use Rattle.std.specs.Prelude.{◌≡◌};
 ghost use Rattle.tier.specs.Demotions.{raised as higher, told_drop};
 ghost use Rattle.tier.specs.Lifts.{lifted_deeper};
-ghost use Rattle.tier.specs.Refusals.{lift_number_of, dropped_number_of, fault_raised};
+ghost use Rattle.tier.specs.Refusals.{lift_number_of, dropped_number_of, fault_raised, dropped_text};
 
 use crate::victim::Victim;
 use device::DeviceFault;
@@ -67,6 +67,8 @@ impl Refusal for Dropped {
 
 // The block and its refusal, by number.
 impl fmt::Display for Dropped {
+    ghost output = { dropped_text };
+
     fn fmt<W: fmt::Write>(&self, f: &mut fmt::Formatter<W>) -> fmt::Result {
         write!(
             f,

@@ -13,7 +13,7 @@ fn sum(hits: &[u32]) -> u64
     ensures all { result ≡ total hits.now }
     ensures few { result ≤ 34359738360 }
 {
-    // A loop, and no `sum`: that the total is small is known item by item.
+    // A loop: of the library's `sum` the search does not find that it is this total, nor that it is small.
     let mut all = 0;
     for n in hits {
         all += u64::from(*n);
@@ -90,6 +90,7 @@ impl Tallies {
         ensures hits { served self.new ≡ raised level (served self.old) }
         ensures floor { self.new.floor ≡ self.old.floor }
     {
+        // Two comparisons: what `contains` of a range tells is not what the lemmas on tallies speak of.
         if level >= 1 && level <= self.levels {
             self.hits[level - 1] += 1;
         }

@@ -55,8 +55,9 @@ impl Row {
         self.shelf.release(slot);
     }
 
-    // Copies the entry that names a block into the buffer, and removes it. The buffer is a slice: the tiers above are lent
-    // slices of any length, which they refuse while they run, and a lent slice that is turned into a lent array gets no proof.
+    // Copies the entry that names a block into the buffer, and removes it. The buffer is a slice, here and in `eject`, `put` and the
+    // frames: the tiers above are lent slices of any length, which they refuse while they run, and a slice that is lent for writing
+    // and turned into an array gets no proof.
     pub fn take(&mut self, number: u32, buffer: &mut [u8]) -> Option<Mark>
         requires { length buffer.old ≡ 256 }
         ensures answer { result ≡ option_map (λ e. e.mark) (sought number (entries self.old)) }

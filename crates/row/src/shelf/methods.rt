@@ -46,7 +46,7 @@ impl Shelf {
         self.index.find(number)
     }
 
-    // The number of a slot in order.
+    // The number of a slot in order. That it is in order is asked, here and below, since the order changes and the slot does not.
     pub fn number(&self, x: Slot) -> u32
         requires { member x (order self.now) ≡ true }
         ensures { key self.now x ≡ Some result }
