@@ -39,13 +39,11 @@ fn compare_floors<D: Device + Drop, E: Device + Drop>(
 {
     let first = Stack {
         tier: Floor::new(one),
-        sheet: first.sheet,
-        levels: first.levels,
+        side: first,
     };
     let second = Stack {
         tier: Floor::new(other),
-        sheet: second.sheet,
-        levels: second.levels,
+        side: second,
     };
     Ok(compare_levels(heap, first, second)?)
 }

@@ -3,18 +3,18 @@ ghost use Rattle.std.specs.Vec.{vec_items as items};
 ghost use Rattle.comparing.specs.Levels.{Compared};
 ghost use Rattle.replaying.specs.Outcomes.{stacked};
 
+use crate::side::Side;
 use certificate::{CompareFault, Comparison, Layout, compare};
 use formats::Sheet;
 use replaying::{Done, Work, on_levels};
 use std::alloc::Global;
 use tier::Tier;
 
-// A tier, and the sheet whose levels are put over it, of which the first so many are compared.
+// A tier, and the sheet whose levels are put over it and compared.
 #[derive(Drop)]
 pub struct Stack<'a, T> {
     pub tier: T,
-    pub sheet: &'a Sheet,
-    pub levels: u32,
+    pub side: Side<&'a Sheet>,
 }
 
 // The comparison of a layout with the first so many levels of a tier.
@@ -54,7 +54,7 @@ impl<S: Tier + Drop> Work for Across<'_, S> {
 
     ghost needs = { λ _ _. Unit {0} };
 
-    ghost gives = { λ a m told _. Compared m a.levels (stacked (items a.second.sheet.now.levels) (S.Tier.model a.second.tier)) a.second.levels told };
+    ghost gives = { λ a m told _. Compared m a.levels (stacked (items a.second.side.sheet.now.levels) (S.Tier.model a.second.tier)) a.second.side.levels told };
 
     fn on<T: Tier>(self, tier: T) -> Done<T, Result<Comparison, CompareFault>> {
         let Across {
@@ -69,9 +69,9 @@ impl<S: Tier + Drop> Work for Across<'_, S> {
         let beside = Beside {
             heap,
             first,
-            levels: second.levels,
+            levels: second.side.levels,
         };
-        let Done { told, .. } = on_levels(second.tier, &second.sheet.levels, beside);
+        let Done { told, .. } = on_levels(second.tier, &second.side.sheet.levels, beside);
         Done { tier, told }
     }
 }
@@ -82,13 +82,13 @@ pub fn compare_levels<F: Tier + Drop, S: Tier + Drop>(
     first: Stack<F>,
     second: Stack<S>,
 ) -> Result<Comparison, CompareFault>
-    ensures { Compared (stacked (items first.entry.sheet.now.levels) (F.Tier.model first.entry.tier)) first.entry.levels (stacked (items second.entry.sheet.now.levels) (S.Tier.model second.entry.tier)) second.entry.levels result }
+    ensures { Compared (stacked (items first.entry.side.sheet.now.levels) (F.Tier.model first.entry.tier)) first.entry.side.levels (stacked (items second.entry.side.sheet.now.levels) (S.Tier.model second.entry.tier)) second.entry.side.levels result }
 {
     let across = Across {
         heap,
-        levels: first.levels,
+        levels: first.side.levels,
         second,
     };
-    let Done { told, .. } = on_levels(first.tier, &first.sheet.levels, across);
+    let Done { told, .. } = on_levels(first.tier, &first.side.sheet.levels, across);
     told
 }

@@ -31,7 +31,7 @@ fn compare_single(
     compare_listed(heap, &mut one, first, &mut other, second)
 }
 
-// The first layout over a stripe, the second over another of the same unit.
+// The first layout over a stripe, the second over another of the same unit. Devices are lent one by one, as below.
 fn compare_stripes<D: Device, E: Device, F: Device, G: Device>(
     heap: Global,
     one_first: &mut D,

@@ -1,7 +1,7 @@
 // Images, archives, stripes and defect lists at their edges.
 use device::{Archive, Device, Image, Source};
 use layers::{DefectList, Stripe};
-use refusal::told;
+use refusal::{Refusal, told};
 
 // Blocks of images and archives of a few lengths, and a write and a read of block 0.
 pub fn lengths(rt: &HostRuntime) -> anyhow::Result<()> {
@@ -60,9 +60,8 @@ pub fn defects(rt: &HostRuntime) -> anyhow::Result<()> {
     let equal = told(list.list(0));
     println!(rt; "first defect {first}, the same again {equal}")?;
     for n in 1u32..15 {
-        let answer = told(list.list(n));
-        if answer != 0 {
-            println!(rt; "defect {n} answered {answer}")?;
+        if let Err(fault) = list.list(n) {
+            println!(rt; "defect {n} answered {}", fault.number())?;
         }
     }
     let smaller = told(list.list(3));

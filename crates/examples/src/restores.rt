@@ -1,19 +1,14 @@
 // Restoring at its edges.
 use device::{Archive, Device, Image};
 use layers::{DefectList, RestoreFault, restore};
-use refusal::Refusal;
-use restoring::{Striping, restore_image, restore_images};
+use restoring::{Record, Striping, restore_image, restore_images};
 
 fn print_outcome(
     rt: &HostRuntime,
     name: &str,
     outcome: Result<u32, RestoreFault>,
 ) -> anyhow::Result<()> {
-    match outcome {
-        Ok(blocks) => println!(rt; "{name}: restored {blocks}")?,
-        Err(fault) => println!(rt; "{name}: refused {}", fault.number())?,
-    }
-    Ok(())
+    Ok(println!(rt; "{name}: {}", Record(outcome))?)
 }
 
 // How many bytes have the value.
@@ -89,15 +84,10 @@ pub fn onto_stripe(rt: &HostRuntime) -> anyhow::Result<()> {
             },
         );
         let (a, b, c, d) = (first[0], first[256], second[0], second[256]);
-        match outcome {
-            Ok(blocks) => println!(rt;
-                "stripe of unit {unit}, defect {defect}: restored {blocks}, blocks {a} {b} and {c} {d}"
-            )?,
-            Err(fault) => println!(rt;
-                "stripe of unit {unit}, defect {defect}: refused {}, blocks {a} {b} and {c} {d}",
-                fault.number()
-            )?,
-        }
+        println!(rt;
+            "stripe of unit {unit}, defect {defect}: {}, blocks {a} {b} and {c} {d}",
+            Record(outcome)
+        )?;
     }
     Ok(())
 }

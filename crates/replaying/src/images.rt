@@ -76,7 +76,8 @@ fn replay_image(heap: Global, bytes: &mut [u8], job: Job) -> Result<Outcome, Rep
     replay_listed(heap, &mut image, job)
 }
 
-// Stripes two devices and runs the lines on them.
+// Stripes two devices and runs the lines on them. The unit comes as a number, here and below: what the halves are is shown for a
+// number above 0, and of a `Unit` its callers see the number alone.
 fn replay_striped<D: Device, E: Device>(
     heap: Global,
     first: &mut D,

@@ -4,6 +4,7 @@ ghost use Rattle.formats.specs.Shown.{shown};
 ghost use Rattle.formats.specs.Traces.{Said};
 ghost use Rattle.pile.specs.Mounts.{mount_answer};
 ghost use Rattle.pile.specs.Piles.{sync, stepped, after};
+ghost use Rattle.pile.specs.Mounted.{pile_model};
 ghost use Rattle.pile.specs.Tallies.{pile_of};
 ghost use Rattle.replaying.specs.Calls.{call_of, calls_of};
 ghost use Rattle.replaying.specs.Runs.{refuses, refusals};
@@ -30,8 +31,8 @@ pub struct Trace<'a> {
 
 // Reads the block of a line, and tells whether that was refused.
 fn run_read<T: Tier>(pile: &mut Pile<T>, number: &[u8]) -> bool
-    ensures refused { result ≡ refuses (call_of (Said.read number.now)) (pile_of (T.Tier.model pile.old.tier) pile.old.tallies) }
-    ensures after { pile_of (T.Tier.model pile.new.tier) pile.new.tallies ≡ stepped (call_of (Said.read number.now)) (pile_of (T.Tier.model pile.old.tier) pile.old.tallies) }
+    ensures refused { result ≡ refuses (call_of (Said.read number.now)) (pile_model T.Tier.model pile.old) }
+    ensures after { pile_model T.Tier.model pile.new ≡ stepped (call_of (Said.read number.now)) (pile_model T.Tier.model pile.old) }
     ensures loans { T.Tier.loans pile.new.tier ≡ T.Tier.loans pile.old.tier }
 {
     let mut buffer = [0u8; BLOCK];
@@ -41,8 +42,8 @@ fn run_read<T: Tier>(pile: &mut Pile<T>, number: &[u8]) -> bool
 
 // Writes the block of a line, and tells whether that was refused.
 fn run_write<T: Tier>(pile: &mut Pile<T>, number: &[u8], fill: &[u8]) -> bool
-    ensures refused { result ≡ refuses (call_of (Said.write number.now fill.now)) (pile_of (T.Tier.model pile.old.tier) pile.old.tallies) }
-    ensures after { pile_of (T.Tier.model pile.new.tier) pile.new.tallies ≡ stepped (call_of (Said.write number.now fill.now)) (pile_of (T.Tier.model pile.old.tier) pile.old.tallies) }
+    ensures refused { result ≡ refuses (call_of (Said.write number.now fill.now)) (pile_model T.Tier.model pile.old) }
+    ensures after { pile_model T.Tier.model pile.new ≡ stepped (call_of (Said.write number.now fill.now)) (pile_model T.Tier.model pile.old) }
     ensures loans { T.Tier.loans pile.new.tier ≡ T.Tier.loans pile.old.tier }
 {
     let bytes = [fill_in(fill).unwrap_or(0); BLOCK];
@@ -51,8 +52,8 @@ fn run_write<T: Tier>(pile: &mut Pile<T>, number: &[u8], fill: &[u8]) -> bool
 
 // Runs a line, and tells whether it was refused; a refused sync does not count.
 fn run_line<T: Tier>(pile: &mut Pile<T>, line: Line<'_>) -> bool
-    ensures refused { result ≡ refuses (call_of (shown line.entry)) (pile_of (T.Tier.model pile.old.tier) pile.old.tallies) }
-    ensures after { pile_of (T.Tier.model pile.new.tier) pile.new.tallies ≡ stepped (call_of (shown line.entry)) (pile_of (T.Tier.model pile.old.tier) pile.old.tallies) }
+    ensures refused { result ≡ refuses (call_of (shown line.entry)) (pile_model T.Tier.model pile.old) }
+    ensures after { pile_model T.Tier.model pile.new ≡ stepped (call_of (shown line.entry)) (pile_model T.Tier.model pile.old) }
     ensures loans { T.Tier.loans pile.new.tier ≡ T.Tier.loans pile.old.tier }
 {
     match line {
@@ -67,8 +68,8 @@ fn run_line<T: Tier>(pile: &mut Pile<T>, line: Line<'_>) -> bool
 
 // Runs the lines of an accepted trace in order, and tells how many were refused.
 fn run<T: Tier>(pile: &mut Pile<T>, body: &[u8]) -> u64
-    ensures refused { result ≡ refusals (calls_of body.now) (pile_of (T.Tier.model pile.old.tier) pile.old.tallies) }
-    ensures after { pile_of (T.Tier.model pile.new.tier) pile.new.tallies ≡ after (calls_of body.now) (pile_of (T.Tier.model pile.old.tier) pile.old.tallies) }
+    ensures refused { result ≡ refusals (calls_of body.now) (pile_model T.Tier.model pile.old) }
+    ensures after { pile_model T.Tier.model pile.new ≡ after (calls_of body.now) (pile_model T.Tier.model pile.old) }
     ensures loans { T.Tier.loans pile.new.tier ≡ T.Tier.loans pile.old.tier }
 {
     let mut refused = 0;
@@ -80,8 +81,8 @@ fn run<T: Tier>(pile: &mut Pile<T>, body: &[u8]) -> u64
 
 // Runs the lines on a mounted tier, syncs it and ends the pile.
 fn run_out<T: Tier>(mut mounted: Pile<T>, body: &[u8]) -> Done<T, Outcome>
-    ensures after { pile_of (T.Tier.model result.tier) result.told.tallies ≡ stepped sync (after (calls_of body.now) (pile_of (T.Tier.model mounted.tier) mounted.tallies)) }
-    ensures refused { result.told.refused ≡ refusals (calls_of body.now) (pile_of (T.Tier.model mounted.tier) mounted.tallies) }
+    ensures after { pile_of (T.Tier.model result.tier) result.told.tallies ≡ stepped sync (after (calls_of body.now) (pile_model T.Tier.model mounted)) }
+    ensures refused { result.told.refused ≡ refusals (calls_of body.now) (pile_model T.Tier.model mounted) }
     ensures loans { T.Tier.loans result.tier ≡ T.Tier.loans mounted.tier }
 {
     let refused = run(&mut mounted, body);

@@ -3,20 +3,9 @@
 
 use device::{Archive, Image, Source};
 use files::{IMAGE, read_all, write_over};
-use layers::RestoreFault;
-use refusal::Refusal;
-use restoring::restore_image;
-use std::io;
+use restoring::{Record, restore_image};
 
 const ARCHIVE: &str = "archive.bin";
-
-// Prints what came of it.
-fn record(rt: &HostRuntime, outcome: Result<u32, RestoreFault>) -> io::Result<()> {
-    match outcome {
-        Ok(blocks) => println!(rt; "restored {blocks}"),
-        Err(fault) => println!(rt; "refused {}", fault.number()),
-    }
-}
 
 fn run(rt: &HostRuntime) -> anyhow::Result<()> {
     let archive = read_all(rt, ARCHIVE)?;
@@ -27,7 +16,7 @@ fn run(rt: &HostRuntime) -> anyhow::Result<()> {
     if let Ok(1..) = outcome {
         write_over(rt, IMAGE, &image)?;
     }
-    record(rt, outcome)?;
+    println!(rt; "{}", Record(outcome))?;
     Ok(())
 }
 

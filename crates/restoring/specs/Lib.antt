@@ -1,2 +1,3 @@
 pub mod Slices
 pub mod Stacks
+pub mod Records
