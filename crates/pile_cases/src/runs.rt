@@ -19,7 +19,7 @@ fn touches<T: Tier + Drop>(rt: &HostRuntime, tier: T) -> anyhow::Result<()> {
     play(rt, tier, &calls)
 }
 
-// One function for each layout, over any device: a call at levels that stand on a lent image gets no proof.
+// Over any device: a call at two levels that stand on a lent image gets no proof, though one at a single level does.
 fn over_two<D: Device + Drop>(
     rt: &HostRuntime,
     upper: u32,
@@ -29,13 +29,9 @@ fn over_two<D: Device + Drop>(
     touches(rt, two(upper, lower, device))
 }
 
-fn over_one<D: Device + Drop>(rt: &HostRuntime, capacity: u32, device: D) -> anyhow::Result<()> {
-    touches(rt, one(capacity, device))
-}
-
 pub fn layouts(rt: &HostRuntime) -> anyhow::Result<()> {
     let mut bytes = numbered(rt.alloc(), 6)?;
     over_two(rt, 2, 3, Image::new(&mut bytes))?;
-    over_one(rt, 5, Image::new(&mut bytes))?;
+    touches(rt, one(5, Image::new(&mut bytes)))?;
     over_two(rt, 3, 2, Image::new(&mut bytes))
 }
