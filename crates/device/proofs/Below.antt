@@ -1,9 +1,12 @@
 -- A test of every number below a limit, number by number.
-use Rattle.std.proofs.Common.{◌≡◌, ℕ, zero, suc, ◌+◌, ◌<◌, Bool, true, false, ◌&&◌, sym, refl, ap, ◌∙◌, inl, inr, arith}
-use Rattle.std.proofs.lemmas.Bool.{cases_Bool, cases_eq, and_left, and_right, true≢false}
+use Rattle.std.proofs.Common.{◌≡◌, ℕ, zero, suc, ◌+◌, ◌<◌, Bool, true, false, ◌&&◌, sym, refl, ap, ◌∙◌, inl, inr, add-one, arith}
+use Rattle.std.proofs.lemmas.Bool.{cases_Bool, cases_eq, and_from, and_left, and_right, true≢false}
 use Rattle.std.proofs.Math.Bool.{and_assoc, and-true}
 use Rattle.std.specs.List.{list_all, range_with_len}
 use Rattle.device.specs.Below.{all_below}
+
+pub all_more : (f : ℕ → Bool) (n : ℕ) → all_below f n ≡ true → f n ≡ true → all_below f (n + 1) ≡ true
+all_more f n h k = rw add-one (and_from (all_below f n) (f n) h k)
 
 pub all_broken : (f : ℕ → Bool) (b n : ℕ) → b < n → f b ≡ false → all_below f n ≡ false
 all_broken f b zero h k = absurd (omega arith)

@@ -14,12 +14,13 @@ const TWO: [LevelTally; 2] = [
     },
 ];
 
+// Byte by byte, since a text of them all could find no memory.
 fn show_buffer(rt: &HostRuntime, buffer: &[u8]) -> io::Result<()> {
-    let text: String = buffer
-        .iter()
-        .map(|b| if *b == b'\n' { '/' } else { char::from(*b) })
-        .collect(rt.alloc())?;
-    println!(rt; "{text}")
+    for b in buffer {
+        let c = if *b == b'\n' { '/' } else { char::from(*b) };
+        print!(rt; "{c}")?;
+    }
+    println!(rt; "")
 }
 
 fn show(rt: &HostRuntime, name: &str, buffer: &mut [u8], report: &Report) -> io::Result<()> {

@@ -1,5 +1,5 @@
 // A line for each sheet: its lists, or the refusal and the offset.
-use formats::{Sheet, read_sheet};
+use formats::{Sheet, SheetFault, read_sheet};
 use std::io;
 
 const SHEETS: &[(&str, &[u8])] = &[
@@ -51,6 +51,8 @@ fn show(rt: &HostRuntime, name: &str, bytes: &[u8]) -> io::Result<()> {
                 defects,
             },
         ) => { println!(rt; "{name}: levels {levels:?} images {images:?} defects {defects:?}") }
+        // Want of memory has no number and no offset.
+        Err(SheetFault::Memory) => println!(rt; "{name}: 0 at 0"),
         Err(fault) => println!(rt; "{name}: {fault}"),
     }
 }

@@ -47,18 +47,17 @@ impl From<Dropped> for PileFault {
     }
 }
 
-// A pile's blocks are whole, so that a demotion is refused by the stored blocks alone.
-impl From<DemoteFault> for PileFault {
-    ghost from_gives = { λ f r. r ≡ demotion_fault f };
-
-    fn from(fault: DemoteFault) -> PileFault {
-        match fault {
-            DemoteFault::Length(victim) => {
-                let _ = victim.open();
-                PileFault::Device(DeviceFault::Length)
-            }
-            DemoteFault::Dropped(dropped) => PileFault::Dropped(dropped),
+// What a refused demotion is to a pile, whose blocks are whole, so that the stored blocks alone refuse one. A function of this crate
+// and no `From`: by that a `?` could forget a block in hand, anywhere.
+pub(crate) fn refused_demotion(fault: DemoteFault) -> PileFault
+    ensures { result ≡ demotion_fault fault }
+{
+    match fault {
+        DemoteFault::Length(victim) => {
+            let _ = victim.open();
+            PileFault::Device(DeviceFault::Length)
         }
+        DemoteFault::Dropped(dropped) => PileFault::Dropped(dropped),
     }
 }
 

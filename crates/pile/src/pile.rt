@@ -9,7 +9,7 @@ ghost use Rattle.pile.specs.Piles.{read, write, sync, answered, stepped, admitte
 ghost use Rattle.pile.specs.Mounts.{has_entry as holding, mount_answer};
 ghost use Rattle.pile.specs.Mounted.{pile_model as pile};
 
-use crate::faults::{MountFault, PileFault};
+use crate::faults::{MountFault, PileFault, refused_demotion};
 use crate::tallies::{LEVELS, Tallies};
 use device::{BLOCK, admit};
 use row::Mark;
@@ -102,7 +102,9 @@ impl<T: Tier> Pile<T> {
         ensures tallies { self.new.tallies ≡ self.old.tallies }
         ensures loans { T.Tier.loans self.new.tier ≡ T.Tier.loans self.old.tier }
     {
-        Ok(self.tier.demote(Victim::new(b, mark), bytes)?)
+        self.tier
+            .demote(Victim::new(b, mark), bytes)
+            .map_err(refused_demotion)
     }
 
     // Takes block `b` from the level that has it, or else from the stored blocks, its bytes into the buffer.

@@ -1,10 +1,10 @@
 // Which tiers are mounted, and that a refused one is given back.
-use device::{Device, Image, Source};
+use device::{Device, DeviceFault, Image, Source};
 use pile::{MountFault, Pile, PileFault, Refused};
 use refusal::told;
 use row::Mark;
 use showing::print_rows;
-use tier::{Floor, Level, Tier, Victim};
+use tier::{DemoteFault, Floor, Level, Tier, Victim};
 
 // A tier under four levels of capacity 1.
 pub fn four_over<T>(below: T) -> Level<Level<Level<Level<T>>>> {
@@ -32,7 +32,14 @@ fn mount<T: Tier + Drop>(rt: &HostRuntime, tier: T) -> anyhow::Result<T> {
 
 // Takes block 3 into the top level.
 pub fn take_in<T: Tier>(tier: &mut T) -> Result<(), PileFault> {
-    Ok(tier.demote(Victim::new(3, Mark::Saved), &[7u8; 256])?)
+    match tier.demote(Victim::new(3, Mark::Saved), &[7u8; 256]) {
+        Ok(()) => Ok(()),
+        Err(DemoteFault::Length(victim)) => {
+            let _ = victim.open();
+            Err(PileFault::Device(DeviceFault::Length))
+        }
+        Err(DemoteFault::Dropped(dropped)) => Err(PileFault::Dropped(dropped)),
+    }
 }
 
 // Mounts a tier with block 3 in it, and again without it.

@@ -2,6 +2,7 @@
 #![tactic(auto)]
 
 ghost use Rattle.std.specs.Prelude.{◌≡◌, ◌*◌, slice_get, unwrap_or};
+ghost use Rattle.showing.specs.Words.{mark_text};
 
 use device::BLOCK;
 use row::Mark;
@@ -16,6 +17,8 @@ const PLACES: u32 = 16;
 pub struct InWords(pub Mark);
 
 impl fmt::Display for InWords {
+    ghost output = { λ w. mark_text w.0 };
+
     fn fmt<W: fmt::Write>(&self, f: &mut fmt::Formatter<W>) -> fmt::Result {
         f.write_str(match self.0 {
             Mark::Saved => "saved",

@@ -1,5 +1,6 @@
 // Writing a report into a buffer that is handed in.
-ghost use Rattle.std.specs.Prelude.{◌≡◌, ◌-◌, ◌^◌, length, min};
+ghost use Rattle.std.specs.Prelude.{◌≡◌, ◌-◌, ◌^◌, ◌<◌, length, nat_le};
+ghost use Rattle.std.specs.Bool.{then_some};
 ghost use Rattle.formats.specs.Reports.{level_lines as all_lines, report, report_answer as answered, report_buffer as filled, Wrote};
 ghost use Rattle.formats.specs.ReportLaws.{ReadBack};
 
@@ -25,16 +26,24 @@ impl Report<'_> {
         cursor.line(b"refused ", self.refused);
     }
 
-    // How long the report is, or the greatest number if it is longer.
-    fn length(&self) -> usize
-        ensures { result ≡ min (length (report self.now.levels.now self.now.floor self.now.refused)) (2 ^ 64 - 1) }
+    // How long the report is, if it has at most so many bytes. The levels are measured up to the first that is past the room.
+    fn length_within(&self, room: usize) -> Option<usize>
+        requires { room < 2 ^ 64 - 1 }
+        ensures { result ≡ then_some (nat_le (length (report self.now.levels.now self.now.floor self.now.refused)) room) (length (report self.now.levels.now self.now.floor self.now.refused)) }
     {
         let mut cursor = Cursor {
             buffer: &mut [],
             at: 0,
         };
-        self.put(&mut cursor);
-        cursor.at
+        cursor.line(b"floor ", self.floor);
+        cursor.line(b"refused ", self.refused);
+        for (i, level) in self.levels.iter().enumerate() {
+            if cursor.at > room {
+                return None;
+            }
+            cursor.level(i + 1, level);
+        }
+        (cursor.at <= room).then_some(cursor.at)
     }
 
     // Writes the report if the buffer has room for it.
@@ -42,10 +51,7 @@ impl Report<'_> {
         ensures answer { result ≡ answered (length buffer.old) (report self.now.levels.now self.now.floor self.now.refused) }
         ensures buffer { buffer.new ≡ filled (report self.now.levels.now self.now.floor self.now.refused) buffer.old }
     {
-        let length = self.length();
-        if buffer.len() < length {
-            return Err(ReportFault::Short);
-        }
+        let length = self.length_within(buffer.len()).ok_or(ReportFault::Short)?;
         self.put(&mut Cursor { buffer, at: 0 });
         Ok(length)
     }

@@ -41,10 +41,13 @@ fn sync_fields(fields: &[u8]) -> Option<Line<'_>>
 fn parse(text: &[u8]) -> Option<Line<'_>>
     ensures { shown result ≡ said text.now }
 {
-    match text {
-        [b'R', fields @ ..] => read_fields(fields),
-        [b'W', fields @ ..] => write_fields(fields),
-        [b'S', fields @ ..] => sync_fields(fields),
+    let [letter, fields @ ..] = text else {
+        return None;
+    };
+    match char::from(*letter) {
+        'R' => read_fields(fields),
+        'W' => write_fields(fields),
+        'S' => sync_fields(fields),
         _ => None,
     }
 }
